@@ -1,0 +1,27 @@
+-- How the code's values make up those of the definition: a public function's contract is one equation of these with its definition.
+use Prim.Native.Nat.{ℕ}
+use mathlib.Core.List.{List}
+use lib.Ieee.{Float}
+use Rattle.definition.specs.declared.EqualizeState.{EqualizeState}
+use Rattle.definition.specs.declared.Equalized.{Equalized}
+use Rattle.definition.specs.declared.Fresh.{Fresh}
+use Rattle.definition.specs.Sample.{Equalizer}
+use Rattle.definition.specs.Calls.{NewAnswer, newAnswer, ResetAnswer, resetAnswer, SetAnswer, setAnswer, Answer, answer}
+
+-- the record, and what the slices of weights and window hold
+abbrev pub equalizer : EqualizeState → List Float → List Float → Equalizer
+equalizer s w h = record { state = s; weights = w; window = h }
+
+-- an equalizing call's result, and the later content of weights, window, output and marks
+abbrev pub answered : Equalized → List Float → List Float → List Float → List ℕ → Answer
+answered r w h ys ms = answer (r .outcome) (equalizer (r .state) w h) ys ms
+
+-- of `new`, `reset` and the setters
+abbrev pub made : Fresh → List Float → List Float → NewAnswer
+made r w h = newAnswer r w h
+
+abbrev pub resetTo : Equalized → List Float → List Float → ResetAnswer
+resetTo r w h = resetAnswer (r .outcome) (equalizer (r .state) w h)
+
+abbrev pub settled : Equalized → SetAnswer
+settled r = setAnswer (r .outcome) (r .state)
