@@ -8,3 +8,4 @@ pub mod Kept
 pub mod Exits
 pub mod Runs
 pub mod Padding
+pub mod Verdicts
