@@ -9,3 +9,6 @@ pub mod Exits
 pub mod Runs
 pub mod Padding
 pub mod Verdicts
+pub mod Computed
+pub mod Vectors
+pub mod Tables

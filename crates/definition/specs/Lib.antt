@@ -19,3 +19,8 @@ pub mod Rules
 pub mod Run
 pub mod Calls
 pub mod Packed
+pub mod Rows
+pub mod Examples
+pub mod Refused
+pub mod Constants
+pub mod Edges

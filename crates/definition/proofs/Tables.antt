@@ -1,0 +1,29 @@
+-- The tables of rows pass, each computed whole. Assumes nothing.
+use mathlib.Core.Path.{_≡_, refl}
+use mathlib.Core.Bool.{true}
+use Rattle.definition.specs.Rows.{bitsOf, stateBits, sameEqualizer, settings, settingsWith}
+use Rattle.definition.specs.Examples.{examplesPass}
+use Rattle.definition.specs.Refused.{refusalsPass}
+use Rattle.definition.specs.Constants.{constantsPass}
+use Rattle.definition.specs.Edges.{edgesPass}
+use Rattle.definition.proofs.Computed.{computed}
+
+-- document 01's examples
+pub examples-pass : examplesPass ≡ true
+unfolding computed bitsOf stateBits sameEqualizer settings settingsWith examplesPass
+examples-pass = refl
+
+-- the refusals, and what the operations leave
+pub refusals-pass : refusalsPass ≡ true
+unfolding computed bitsOf stateBits sameEqualizer settings settingsWith refusalsPass
+refusals-pass = refl
+
+-- the constants against their decimals and roots
+pub constants-pass : constantsPass ≡ true
+unfolding computed constantsPass
+constants-pass = refl
+
+-- the leaves at their edges
+pub edges-pass : edgesPass ≡ true
+unfolding computed bitsOf edgesPass
+edges-pass = refl
