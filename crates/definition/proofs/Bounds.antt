@@ -15,7 +15,7 @@ use lib.Ieee.Fits.{and-i}
 use lib.Ieee.Scale.{finite}
 use Rattle.laws.specs.Bound.{AtMost, Within, round-at-most, mul-at-most, within-add, within-sub, within-mul, within-mono, within-neg, power-held, at-most-finite, at-most-mono, le-or-lt}
 use Rattle.tables.specs.Table.{cosAt, cosBits}
-use Rattle.tables.specs.Rules.{at-most-one}
+use Rattle.tables.proofs.Rules.{at-most-one}
 use Rattle.definition.specs.declared.C32.{C32}
 use Rattle.definition.specs.declared.CosSin.{CosSin}
 use Rattle.definition.specs.declared.Qam.{Qam}

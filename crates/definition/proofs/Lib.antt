@@ -12,3 +12,5 @@ pub mod Verdicts
 pub mod Computed
 pub mod Vectors
 pub mod Tables
+pub mod Starts
+pub mod Mapped

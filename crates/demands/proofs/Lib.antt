@@ -5,3 +5,4 @@ pub mod Blank
 pub mod Dropout
 pub mod Spill
 pub mod Made
+pub mod Meets

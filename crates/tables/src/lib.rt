@@ -1,10 +1,10 @@
-// cos(2 pi k / 4096) to the nearest f32, k = 0 ..= 4096, as bit patterns.
+// The cosine table, in the place of the Rust's COS_F32.
 ghost use mathlib.Core.Path.{_≡_};
 ghost use Prim.Native.Nat.{_<_};
-ghost use Rattle.tables.specs.Table.{cosAt, cosBits, IsTable};
-ghost use lib.ListN.{length};
+ghost use Rattle.tables.specs.Table.{cosAt, cosBits};
 
-const COS_BITS: [u32; 4097] = [
+// Entry k is the cosine of k / 4096 turn, rounded to the nearest f32, as its bits; entries 1024 and 3072 are +0.
+pub const COS_BITS: [u32; 4097] = [
     0x3f800000,
     0x3f7fffec,
     0x3f7fffb1,
@@ -4104,31 +4104,21 @@ const COS_BITS: [u32; 4097] = [
     0x3f800000,
 ];
 
-pub fn entry(k: usize) -> f32
-    requires { ⌜ k < 4097 ⌝ }
+// Entry k; past the end +0. It stores the whole table at each call: where speed counts, borrow COS_BITS once and read by `lent`.
+pub fn cos_f32(k: usize) -> f32
     ensures { λ r. ⌜ r ≡ cosAt k ⌝ }
 {
-    f32::from_bits(COS_BITS[k])
+    if k < 4097 {
+        return f32::from_bits(COS_BITS[k]);
+    }
+    0.0
 }
 
-// The entry k of the patterns, where they are lent.
+// Entry k of the borrowed table.
 pub fn lent(t: &[u32; 4097], k: usize) -> f32
     requires { ⌜ now t ≡ cosBits ⌝ }
     requires { ⌜ k < 4097 ⌝ }
     ensures { λ r. ⌜ r ≡ cosAt k ⌝ }
 {
     f32::from_bits(t[k])
-}
-
-// The table is written once, into memory that the caller keeps.
-pub fn fill(t: &mut [f32; 4097])
-    requires { ⌜ length (now t) ≡ 4097 ⌝ }
-    ensures { λ _. ⌜ IsTable (now (t .exit)) ⌝ }
-{
-    let src = &COS_BITS;
-    let mut i = 0;
-    while i < 4097 {
-        t[i] = lent(src, i);
-        i += 1;
-    }
 }

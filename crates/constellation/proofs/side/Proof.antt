@@ -1,0 +1,14 @@
+use Rattle.definition.specs.Points.{side}
+use Rattle.constellation.proofs.side.Statement.{statement}
+use Rattle.constellation.proofs.side.Tie as tie
+
+returns : tie.Need-returns
+unfolding side
+returns c = cc
+
+returns-2 : tie.Need-returns-2
+unfolding side
+returns-2 c = cc
+
+pub side-spec : {M : Type 1} → statement M
+side-spec = tie.close (tie.spec returns returns-2)

@@ -1,0 +1,11 @@
+use Rattle.costas.proofs.size.Statement.{statement}
+use Rattle.costas.proofs.size.Tie as tie
+
+returns : tie.Need-returns
+returns c = cc
+
+returns-2 : tie.Need-returns-2
+returns-2 c = cc
+
+pub size-spec : {M : Type 1} → statement M
+size-spec = tie.close (tie.spec returns returns-2)

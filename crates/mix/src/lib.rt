@@ -1,0 +1,61 @@
+// Cosine and sine of a phase, by the table and the straight line between two entries, in f32 without FMA.
+use definition::CosSin;
+ghost use mathlib.Core.Path.{_≡_};
+ghost use Prim.Native.Nat.{_<_, _+_, _%_};
+ghost use Rattle.tables.specs.Table.{cosBits};
+ghost use Rattle.definition.specs.Phase.{lowPart, lineAt, interpPair, cosSin};
+
+// The low 20 bits of the phase as a part of 1.
+fn low_part(p: u32) -> f32
+    ensures { λ r. ⌜ r ≡ lowPart p ⌝ }
+{
+    (p & 0xf_ffff) as f32 * 0.00000095367431640625
+}
+
+// The table index of the sine, a quarter turn back.
+fn sine_index(idx: usize) -> usize
+    requires { ⌜ idx < 4096 ⌝ }
+    ensures { λ r. ⌜ r ≡ (idx + 3072) % 4096 ⌝ }
+{
+    (idx + 3072) & 4095
+}
+
+// The straight line from entry k to the next.
+fn line_at(t: &[u32; 4097], k: usize, f: f32) -> f32
+    requires { ⌜ now t ≡ cosBits ⌝ }
+    requires { ⌜ k < 4096 ⌝ }
+    ensures { λ r. ⌜ r ≡ lineAt k f ⌝ }
+{
+    let a = tables::lent(t, k);
+    let b = tables::lent(t, k + 1);
+    (b - a) * f + a
+}
+
+// (cos, sin) of the phase p, from the borrowed table: the fraction is worked out once, and the sine has the index (idx + 3072) mod 4096.
+pub fn interp_f32_pair_in(t: &[u32; 4097], p: u32) -> CosSin
+    requires { ⌜ now t ≡ cosBits ⌝ }
+    ensures { λ r. ⌜ r ≡ interpPair p ⌝ }
+{
+    let idx = (p >> 20) as usize;
+    let f = low_part(p);
+    CosSin {
+        c: line_at(t, idx, f),
+        s: line_at(t, sine_index(idx), f),
+    }
+}
+
+// The same, with the table borrowed in the call.
+pub fn interp_f32_pair(p: u32) -> CosSin
+    ensures { λ r. ⌜ r ≡ interpPair p ⌝ }
+{
+    let table = &tables::COS_BITS;
+    interp_f32_pair_in(table, p)
+}
+
+// c and s of step 4: (1, 0) at phase 0, which is what the table gives there, else from the table.
+pub fn cos_sin(t: &[u32; 4097], p: u32) -> CosSin
+    requires { ⌜ now t ≡ cosBits ⌝ }
+    ensures { λ r. ⌜ r ≡ cosSin p ⌝ }
+{
+    interp_f32_pair_in(t, p)
+}
