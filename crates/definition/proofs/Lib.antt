@@ -14,3 +14,4 @@ pub mod Vectors
 pub mod Tables
 pub mod Starts
 pub mod Mapped
+pub mod Running

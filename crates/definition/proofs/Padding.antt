@@ -21,12 +21,12 @@ pub record Zero (x : Float) : Type 0 where
   pub is : x ≡ fin sign 0 (pos 0)
 
 module _ (p : ℕ → Float) (each : (i : ℕ) → T (fits binary32 (p i))) where
-  lane-fits : (k b : ℕ) → T (fits binary32 (lane p k b))
+  pub lane-fits : (k b : ℕ) → T (fits binary32 (lane p k b))
   unfolding lane
   lane-fits k zero = ofBits-fits binary32 0
   lane-fits k (suc b) = add-fits binary32 (lane p k b) (p (8 * b + k))
 
-  lane-not-neg : (k b : ℕ) → T (notNegZero (lane p k b))
+  pub lane-not-neg : (k b : ℕ) → T (notNegZero (lane p k b))
   unfolding lane
   lane-not-neg k zero = unfold ofBits ofFields odd in tt
   lane-not-neg k (suc b) = add-not-neg binary32 (lane p k b) (p (8 * b + k)) (lane-fits k b) (each (8 * b + k)) (lane-not-neg k b)
@@ -42,7 +42,7 @@ module _ (p : ℕ → Float) (each : (i : ℕ) → T (fits binary32 (p i))) wher
       ∙ lane-pad k b c (λ i l h. z i l (omega arith))
 
   -- one partial of n products is that of m, where the products from n on are zeros
-  lane-same : (n m k : ℕ) → k < 8 → n ≤ m → ((i : ℕ) → n ≤ i → i < m → Zero (p i)) → lane p k (laneCount m k) ≡ lane p k (laneCount n k)
+  pub lane-same : (n m k : ℕ) → k < 8 → n ≤ m → ((i : ℕ) → n ≤ i → i < m → Zero (p i)) → lane p k (laneCount m k) ≡ lane p k (laneCount n k)
   lane-same n m k l h z =
       let b = laneCount n k in
       let c = laneCount m k - laneCount n k in
@@ -56,19 +56,19 @@ module _ (p : ℕ → Float) (each : (i : ℕ) → T (fits binary32 (p i))) wher
       rw (s 0 (omega arith), s 1 (omega arith), s 2 (omega arith), s 3 (omega arith), s 4 (omega arith), s 5 (omega arith), s 6 (omega arith), s 7 (omega arith))
 
 -- ---- a weight +0 and a finite window
-times-zero : (x : Float) → T (finite x) → Zero (x *f zero32)
+pub times-zero : (x : Float) → T (finite x) → Zero (x *f zero32)
 times-zero nan h = absurd h
 times-zero (inf s) h = absurd h
 times-zero (fin s m e) h = record { sign = unlike s false; is = unfold ofBits ofFields odd in (mul-zero-right binary32 s m e false) }
 
-zero-minus : (s t : Bool) → Zero (fin s 0 (pos 0) -f fin t 0 (pos 0))
+pub zero-minus : (s t : Bool) → Zero (fin s 0 (pos 0) -f fin t 0 (pos 0))
 unfolding sub add neg sum round size span climb units odd
 zero-minus true true = record { sign = false; is = refl }
 zero-minus true false = record { sign = true; is = refl }
 zero-minus false true = record { sign = false; is = refl }
 zero-minus false false = record { sign = false; is = refl }
 
-zero-plus : (s t : Bool) → Zero (fin s 0 (pos 0) +f fin t 0 (pos 0))
+pub zero-plus : (s t : Bool) → Zero (fin s 0 (pos 0) +f fin t 0 (pos 0))
 unfolding add sum round size span climb units odd
 zero-plus true true = record { sign = true; is = refl }
 zero-plus true false = record { sign = false; is = refl }

@@ -1,11 +1,16 @@
 -- How the code's values make up those of the definition: a public function's contract is one equation of these with its definition.
-use Prim.Native.Nat.{ℕ}
+use Prim.Native.Nat.{ℕ, _*_}
+use mathlib.Core.Path.{_≡_}
+use mathlib.Core.Bool.{true}
 use mathlib.Core.List.{List}
+use lib.ListN.{length}
 use lib.Ieee.{Float}
 use Rattle.definition.specs.declared.EqualizeState.{EqualizeState}
 use Rattle.definition.specs.declared.Equalized.{Equalized}
 use Rattle.definition.specs.declared.Fresh.{Fresh}
 use Rattle.definition.specs.Sample.{Equalizer}
+use Rattle.definition.specs.Rules.{acceptedDef}
+use Rattle.definition.specs.Run.{Run, floatsOf, marksOf}
 use Rattle.definition.specs.Calls.{NewAnswer, newAnswer, ResetAnswer, resetAnswer, SetAnswer, setAnswer, Answer, answer}
 
 -- the record, and what the slices of weights and window hold
@@ -25,3 +30,15 @@ resetTo r w h = resetAnswer (r .outcome) (equalizer (r .state) w h)
 
 abbrev pub settled : Equalized → SetAnswer
 settled r = setAnswer (r .outcome) (r .state)
+
+-- what the run over a block asks of its slices, once the call is served
+pub record Shaped (q : Equalizer) (xs ys : List Float) (ms : List ℕ) : Type 0 where
+  pub accepted : acceptedDef q ≡ true
+  pub input : length xs ≡ 2 * length ms
+  pub output : length ys ≡ 2 * length ms
+
+-- a run's outcome in the slices
+pub record Ran (r : Run) (q : Equalizer) (ys : List Float) (ms : List ℕ) : Type 0 where
+  pub left : q ≡ r .equalizer
+  pub out : ys ≡ floatsOf (r .outs)
+  pub marks : ms ≡ marksOf (r .outs)

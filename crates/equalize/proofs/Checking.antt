@@ -22,14 +22,14 @@ use Rattle.definition.specs.declared.Outcome.the-variants.{Served, Refused}
 use Rattle.definition.specs.Refusals.{Test, test, firstOf}
 use Rattle.definition.specs.Floats.{zero32, maxFreq, flush, clip}
 use Rattle.definition.specs.Slices.{whole, samplesOf, zeros, startWeights}
-use Rattle.definition.specs.Packed.{equalizer, answered, made, resetTo, settled}
+use Rattle.definition.specs.Packed.{equalizer, answered, made, resetTo, settled, Shaped, Ran}
 use Rattle.definition.specs.Gains.{phaseDamping, loopGains}
 use Rattle.definition.specs.Sample.{Equalizer, neverSwitch, withRunning}
 use Rattle.definition.specs.Run.{Run, runDef}
 use Rattle.definition.specs.Rules.{sameBits, feedbackFits, tapsFit, muFits, bwFits, countFits, ruleR1, ruleR2, ruleR4, rules, acceptedDef}
 use Rattle.definition.specs.Calls.{even, newTests, newVerdict, startState, startOver, freshState, newBy, newDef, resetVerdict, resetBy, resetDef, withParams, withMus, setMuCmaDef, setMuDdDef, heldFreq, setFrequencyDef, Lengths, lengthsOf, equalizeTests, verdictDef, Answer, servedBy, answerBy, equalizeDef}
 use Rattle.definition.proofs.Verdicts.{both, passes, fails, fine, Fits, served-fits}
-use Rattle.equalize.specs.Pieces.{Shaped, settingsVerdict, Ran}
+use Rattle.equalize.specs.Pieces.{settingsVerdict}
 use Rattle.equalize.proofs.Bits.{is-nan, no-nan}
 
 -- ---- R2 and the gains

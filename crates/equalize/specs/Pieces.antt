@@ -1,7 +1,6 @@
 -- What the functions inside the crate ask and promise, in the definition's words, and how the code's values make up those of the definition.
 use Prim.Native.Nat.{ℕ, _+_, _*_, _≤_}
 use mathlib.Core.Path.{_≡_}
-use mathlib.Core.Bool.{true}
 use mathlib.Core.List.{List, [], _∷_}
 use lib.ListN.{length}
 use lib.Ieee.{Float}
@@ -15,10 +14,9 @@ use Rattle.definition.specs.Refusals.{test, firstOf}
 use Rattle.definition.specs.Floats.{norm, minusC, scaledC}
 use Rattle.definition.specs.Slices.{power}
 use Rattle.definition.specs.Packed.{equalizer}
-use Rattle.definition.specs.Sample.{Equalizer, Heard, Did, errorOf, muOf, stepSize, phaseError}
+use Rattle.definition.specs.Sample.{Heard, Did, errorOf, muOf, stepSize, phaseError}
 use Rattle.definition.specs.Sample as sample
-use Rattle.definition.specs.Rules.{muFits, bwFits, acceptedDef}
-use Rattle.definition.specs.Run.{Run, floatsOf, marksOf}
+use Rattle.definition.specs.Rules.{muFits, bwFits}
 use Rattle.equalize.specs.declared.reference.Stage.{Stage}
 use Rattle.equalize.specs.declared.reference.Sampled.{Sampled}
 
@@ -30,12 +28,6 @@ pub record Sized (s : EqualizeState) (w h : List Float) (n f : ℕ) : Type 0 whe
   pub sum : f + s .params .«feedback_taps» ≡ n
   pub weights : length w ≡ 2 * n
   pub window : length h ≡ 2 * n
-
--- what a block of samples asks
-pub record Shaped (q : Equalizer) (xs ys : List Float) (ms : List ℕ) : Type 0 where
-  pub accepted : acceptedDef q ≡ true
-  pub input : length xs ≡ 2 * length ms
-  pub output : length ys ≡ 2 * length ms
 
 -- the letters of steps 4 to 7, with c and s, z and d settled
 abbrev pub heardWith : EqualizeState → ℕ → ℕ → List Float → C32 → CosSin → C32 → C32 → Heard
@@ -62,9 +54,3 @@ stage r w = record { state = r .state; weights = w; out = r .out; fed = r .fed; 
 
 abbrev pub did : Sampled → List Float → List Float → Did
 did r w h = record { equalizer = equalizer (r .state) w h; out = record { symbol = r .out; mark = r .mark } }
-
--- a run's outcome in the slices
-pub record Ran (r : Run) (q : Equalizer) (ys : List Float) (ms : List ℕ) : Type 0 where
-  pub left : q ≡ r .equalizer
-  pub out : ys ≡ floatsOf (r .outs)
-  pub marks : ms ≡ marksOf (r .outs)

@@ -16,12 +16,12 @@ ghost use lib.ListN.{length, take, drop};
 ghost use Rattle.tables.specs.Table.{cosBits};
 ghost use Rattle.definition.specs.Floats.{complex, zeroC};
 ghost use Rattle.definition.specs.Slices.{shifted, samplesOf};
-ghost use Rattle.definition.specs.Packed.{equalizer, answered};
+ghost use Rattle.definition.specs.Packed.{equalizer, answered, Shaped, Ran};
 ghost use Rattle.definition.specs.Sample.{step2, step3, hear as hearDef, heardAs, sampleDef};
 ghost use Rattle.definition.specs.Rules.{ruleR4, acceptedDef};
 ghost use Rattle.definition.specs.Run.{runDef};
 ghost use Rattle.definition.specs.Calls.{equalizeDef};
-ghost use Rattle.equalize.specs.Pieces.{Sized, Shaped, heardWith, stage, did, Ran};
+ghost use Rattle.equalize.specs.Pieces.{Sized, heardWith, stage, did};
 
 // What step 8 starts from.
 pub(crate) struct Stage {
