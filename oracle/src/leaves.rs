@@ -6,6 +6,7 @@ use std::fs::{self, File};
 use std::io::{self, BufWriter, Write};
 use std::path::Path;
 
+use crate::cases::CONSTELLATIONS;
 use crate::fallback::costas::{integrate, phase_step_f32};
 use crate::fallback::dot::dot_complex_c32;
 use crate::fallback::mix::interp_f32_pair;
@@ -14,22 +15,10 @@ use crate::kernels::constellation::Qam;
 use crate::kernels::costas::{derotate, loop_gains, octant_point};
 use crate::kernels::dot::DotComplex;
 use crate::kernels::equalize::{EqConstellation, PHASE_DAMPING, clip, rotate};
+use crate::line::bits;
 use crate::num::flush_denormal;
 use crate::reference::dot::Document01Dot;
 use crate::types::C32;
-
-const CONSTELLATIONS: [EqConstellation; 5] = [
-    EqConstellation::Bpsk,
-    EqConstellation::Qpsk,
-    EqConstellation::Psk8,
-    EqConstellation::Qam16,
-    EqConstellation::Qam64,
-];
-
-/// The pattern of a result; every NaN is written alike.
-fn bits(x: f32) -> u32 {
-    if x.is_nan() { 0x7fc0_0000 } else { x.to_bits() }
-}
 
 /// The file of one leaf.
 struct Leaf {

@@ -5,26 +5,60 @@
 
 include!(concat!(env!("OUT_DIR"), "/sdrk/mods.rs"));
 
+mod calls;
+mod cases;
 mod inputs;
 mod leaves;
+mod line;
+mod others;
 
+use std::fs::File;
+use std::io::{self, BufWriter, Write};
 use std::path::Path;
 use std::process::ExitCode;
+
+const USAGE: &str = "usage: oracle leaves OUT_FOLDER
+       oracle calls SEED COUNT [--long] [FILE]
+       oracle others SEED COUNT [FILE]";
 
 fn main() -> ExitCode {
     let args: Vec<String> = std::env::args().skip(1).collect();
     let words: Vec<&str> = args.iter().map(String::as_str).collect();
-    match words[..] {
-        ["leaves", folder] => match leaves::write(Path::new(folder)) {
-            Ok(()) => ExitCode::SUCCESS,
-            Err(e) => {
-                eprintln!("{folder}: {e}");
-                ExitCode::FAILURE
-            }
-        },
-        _ => {
-            eprintln!("usage: oracle leaves OUT_FOLDER");
+    match run(&words) {
+        Ok(true) => ExitCode::SUCCESS,
+        Ok(false) => ExitCode::FAILURE,
+        Err(e) => {
+            eprintln!("oracle: {e}");
             ExitCode::FAILURE
         }
+    }
+}
+
+/// Whether the program did what it was asked, and found the Rust at one with itself.
+fn run(words: &[&str]) -> io::Result<bool> {
+    match *words {
+        ["leaves", folder] => leaves::write(Path::new(folder)).map(|()| true),
+        ["calls", seed, count, "--long", ref file @ ..] if file.len() < 2 => {
+            calls::write(&mut out(file)?, whole(seed)?, whole(count)?, true)
+        }
+        ["calls", seed, count, ref file @ ..] if file.len() < 2 => {
+            calls::write(&mut out(file)?, whole(seed)?, whole(count)?, false)
+        }
+        ["others", seed, count, ref file @ ..] if file.len() < 2 => {
+            others::write(&mut out(file)?, whole(seed)?, whole(count)?).map(|()| true)
+        }
+        _ => Err(io::Error::other(USAGE)),
+    }
+}
+
+fn whole(word: &str) -> io::Result<u64> {
+    word.parse().map_err(io::Error::other)
+}
+
+/// The file that a last word names, or else the standard output.
+fn out(file: &[&str]) -> io::Result<Box<dyn Write>> {
+    match file {
+        [name] => Ok(Box::new(BufWriter::new(File::create(name)?))),
+        _ => Ok(Box::new(BufWriter::new(io::stdout()))),
     }
 }

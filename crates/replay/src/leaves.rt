@@ -1,13 +1,17 @@
 // The leaves, and what a line of each holds: the patterns of the inputs, then of the outputs.
-ghost use mathlib.Core.Path.{_≡_};
 ghost use Prim.Native.Nat.{_≤_};
 ghost use lib.ListN.{length};
+use crate::calls;
+use crate::others;
 use crate::patterns::double;
 use crate::patterns::same;
 use crate::patterns::single;
+use crate::records::Numbered;
+use crate::records::constellation_of;
+use crate::words::Words;
+use crate::words::floats;
 use definition::C32;
 use definition::CosSin;
-use definition::EqConstellation;
 use definition::Qam;
 
 pub(crate) enum Leaf {
@@ -26,6 +30,8 @@ pub(crate) enum Leaf {
     Decide,
     CmaR2,
     DotComplex,
+    Calls,
+    Others,
 }
 
 pub(crate) enum Verdict {
@@ -47,7 +53,7 @@ pub(crate) fn digits_of(leaf: Leaf, at: usize) -> u32 {
 }
 
 // How many words a line has.
-fn words_of(leaf: Leaf, words: &[u64; 512]) -> usize {
+fn words_of(leaf: Leaf, words: &Words) -> usize {
     match leaf {
         Leaf::IsFinite => 2,
         Leaf::FlushDenormal => 2,
@@ -64,6 +70,8 @@ fn words_of(leaf: Leaf, words: &[u64; 512]) -> usize {
         Leaf::Decide => 5,
         Leaf::CmaR2 => 2,
         Leaf::DotComplex => dot_words(words[0]),
+        Leaf::Calls => calls::words_of(words),
+        Leaf::Others => others::words_of(words),
     }
 }
 
@@ -76,7 +84,7 @@ fn dot_words(n: u64) -> usize {
 }
 
 // What a line of `count` words shows.
-pub(crate) fn judge(leaf: Leaf, words: &[u64; 512], count: usize) -> Verdict {
+pub(crate) fn judge(leaf: Leaf, words: &Words, count: usize) -> Verdict {
     if count != words_of(leaf, words) {
         return Verdict::Malformed;
     }
@@ -87,7 +95,7 @@ pub(crate) fn judge(leaf: Leaf, words: &[u64; 512], count: usize) -> Verdict {
     }
 }
 
-fn agrees(leaf: Leaf, words: &[u64; 512]) -> bool {
+fn agrees(leaf: Leaf, words: &Words) -> bool {
     match leaf {
         Leaf::IsFinite => is_finite(words),
         Leaf::FlushDenormal => flush_denormal(words),
@@ -104,10 +112,12 @@ fn agrees(leaf: Leaf, words: &[u64; 512]) -> bool {
         Leaf::Decide => decide(words),
         Leaf::CmaR2 => cma_r2(words),
         Leaf::DotComplex => dot_complex(words),
+        Leaf::Calls => calls::agrees(words),
+        Leaf::Others => others::agrees(words),
     }
 }
 
-fn is_finite(w: &[u64; 512]) -> bool {
+fn is_finite(w: &Words) -> bool {
     let expected = if numeric::is_finite(single(w[0])) {
         1u64
     } else {
@@ -116,34 +126,34 @@ fn is_finite(w: &[u64; 512]) -> bool {
     expected == w[1]
 }
 
-fn flush_denormal(w: &[u64; 512]) -> bool {
+fn flush_denormal(w: &Words) -> bool {
     same(numeric::flush_denormal(single(w[0])), w[1])
 }
 
-fn clip(w: &[u64; 512]) -> bool {
+fn clip(w: &Words) -> bool {
     same(numeric::clip(single(w[0]), single(w[1])), w[2])
 }
 
-fn narrow(w: &[u64; 512]) -> bool {
+fn narrow(w: &Words) -> bool {
     same(numeric::narrow(double(w[0])), w[1])
 }
 
 // The damping is the tracker's own.
-fn loop_gains(w: &[u64; 512]) -> bool {
+fn loop_gains(w: &Words) -> bool {
     let damping = double(w[1]);
     let g = costas::loop_gains(double(w[0]), damping);
     (damping == costas::PHASE_DAMPING) & same(g.kp, w[2]) & same(g.ki, w[3])
 }
 
-fn phase_step(w: &[u64; 512]) -> bool {
+fn phase_step(w: &Words) -> bool {
     costas::phase_step_f32(single(w[0])) as u64 == w[1]
 }
 
-fn integrate(w: &[u64; 512]) -> bool {
+fn integrate(w: &Words) -> bool {
     same(costas::integrate(single(w[0]), single(w[1])), w[2])
 }
 
-fn interp_pair(w: &[u64; 512]) -> bool {
+fn interp_pair(w: &Words) -> bool {
     let p = (w[0] % 0x1_0000_0000) as u32;
     let t = mix::interp_f32_pair(p);
     same(t.c, w[1]) & same(t.s, w[2])
@@ -168,38 +178,21 @@ fn turn(c: u64, s: u64) -> CosSin {
     }
 }
 
-fn derotate(w: &[u64; 512]) -> bool {
+fn derotate(w: &Words) -> bool {
     let y = costas::derotate(complex(w[0], w[1]), turn(w[2], w[3]));
     same_complex(y, w[4], w[5])
 }
 
-fn rotate(w: &[u64; 512]) -> bool {
+fn rotate(w: &Words) -> bool {
     let y = costas::rotate(complex(w[0], w[1]), turn(w[2], w[3]));
     same_complex(y, w[4], w[5])
 }
 
-fn octant_point(w: &[u64; 512]) -> bool {
+fn octant_point(w: &Words) -> bool {
     same_complex(costas::octant_point(complex(w[0], w[1])), w[2], w[3])
 }
 
-// A constellation goes by its number.
-enum Numbered {
-    Known(EqConstellation),
-    Unknown,
-}
-
-fn constellation_of(n: u64) -> Numbered {
-    match n {
-        0 => Numbered::Known(EqConstellation::Bpsk),
-        1 => Numbered::Known(EqConstellation::Qpsk),
-        2 => Numbered::Known(EqConstellation::Psk8),
-        3 => Numbered::Known(EqConstellation::Qam16),
-        4 => Numbered::Known(EqConstellation::Qam64),
-        _ => Numbered::Unknown,
-    }
-}
-
-fn decide_level(w: &[u64; 512]) -> bool {
+fn decide_level(w: &Words) -> bool {
     let v = single(w[1]);
     if w[0] == 3 {
         return constellation::decide_level(Qam::Qam16, v) as u64 == w[2];
@@ -210,14 +203,14 @@ fn decide_level(w: &[u64; 512]) -> bool {
     false
 }
 
-fn decide(w: &[u64; 512]) -> bool {
+fn decide(w: &Words) -> bool {
     let Numbered::Known(k) = constellation_of(w[0]) else {
         return false;
     };
     same_complex(constellation::decide(k, complex(w[1], w[2])), w[3], w[4])
 }
 
-fn cma_r2(w: &[u64; 512]) -> bool {
+fn cma_r2(w: &Words) -> bool {
     let Numbered::Known(k) = constellation_of(w[0]) else {
         return false;
     };
@@ -225,30 +218,16 @@ fn cma_r2(w: &[u64; 512]) -> bool {
 }
 
 // The count of taps, the parts of the window, those of the weights, then the sum.
-fn dot_complex(w: &[u64; 512]) -> bool {
+fn dot_complex(w: &Words) -> bool {
     let n = w[0];
     if n > MOST_TAPS {
         return false;
     }
     let parts = 2 * (n as usize);
-    let window = singles(w, 1, parts);
-    let weights = singles(w, 1 + parts, parts);
+    let window = floats(w, 1, parts);
+    let weights = floats(w, 1 + parts, parts);
     let y = dot_of(&window, &weights, parts);
     same_complex(y, w[2 * parts + 1], w[2 * parts + 2])
-}
-
-// The floats of `count` words.
-fn singles(w: &[u64; 512], from: usize, count: usize) -> [f32; 252]
-    requires { ⌜ (from ≤ 253) × (count ≤ 252) ⌝ }
-    ensures { λ r. ⌜ 252 ≡ length r ⌝ }
-{
-    let mut x = [0.0f32; 252];
-    let mut i = 0;
-    while i < count {
-        x[i] = single(w[from + i]);
-        i += 1;
-    }
-    x
 }
 
 fn dot_of(x: &[f32], w: &[f32], count: usize) -> C32

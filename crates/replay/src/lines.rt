@@ -3,6 +3,7 @@
 use crate::leaves;
 use crate::leaves::Leaf;
 use crate::leaves::Verdict;
+use crate::words::Words;
 
 // What was found so far.
 pub(crate) struct Tally {
@@ -120,9 +121,9 @@ fn take_digit(p: Place, b: u8) -> Place {
     Place { broken: true, ..p }
 }
 
-fn end_word(p: Place, leaf: Leaf, words: &mut [u64; 512]) -> Place {
+fn end_word(p: Place, leaf: Leaf, words: &mut Words) -> Place {
     let at = p.count;
-    if at < 512 && p.digits == leaves::digits_of(leaf, at) {
+    if at < 18000 && p.digits == leaves::digits_of(leaf, at) {
         words[at] = p.word;
         Place {
             word: 0,
@@ -135,7 +136,7 @@ fn end_word(p: Place, leaf: Leaf, words: &mut [u64; 512]) -> Place {
     }
 }
 
-fn end_line(p: Place, leaf: Leaf, words: &[u64; 512]) -> Verdict {
+fn end_line(p: Place, leaf: Leaf, words: &Words) -> Verdict {
     if p.broken {
         Verdict::Malformed
     } else {
@@ -143,7 +144,7 @@ fn end_line(p: Place, leaf: Leaf, words: &[u64; 512]) -> Verdict {
     }
 }
 
-fn take_byte(p: Progress, b: u8, leaf: Leaf, words: &mut [u64; 512]) -> Progress {
+fn take_byte(p: Progress, b: u8, leaf: Leaf, words: &mut Words) -> Progress {
     let place = p.place;
     let tally = p.tally;
     if b == b'\n' {
@@ -166,7 +167,7 @@ fn take_byte(p: Progress, b: u8, leaf: Leaf, words: &mut [u64; 512]) -> Progress
     }
 }
 
-fn take_all(start: Progress, text: &[u8], leaf: Leaf, words: &mut [u64; 512]) -> Progress {
+fn take_all(start: Progress, text: &[u8], leaf: Leaf, words: &mut Words) -> Progress {
     let mut p = start;
     let mut i = 0;
     while i < text.len() {
@@ -177,7 +178,7 @@ fn take_all(start: Progress, text: &[u8], leaf: Leaf, words: &mut [u64; 512]) ->
 }
 
 // Reads once, and takes what came.
-fn read_some(p: Progress, fd: i32, leaf: Leaf, words: &mut [u64; 512]) -> Turn {
+fn read_some(p: Progress, fd: i32, leaf: Leaf, words: &mut Words) -> Turn {
     let mut buf = io::buffer();
     let got = libc::read(fd, &mut buf);
     if got < 0 {
@@ -210,7 +211,7 @@ fn at_end(p: Progress) -> Tally {
 // A proved loop has to end, and nothing says that a file does: the turns are counted down from a number that
 // no file uses up.
 pub(crate) fn read_all(fd: i32, leaf: Leaf) -> Tally {
-    let mut words = [0u64; 512];
+    let mut words = [0u64; 18000];
     let mut p = Progress {
         place: Place::START,
         tally: Tally::NONE,

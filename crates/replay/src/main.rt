@@ -1,10 +1,14 @@
 // Replays the answers of the original Rust. The program is run in a folder with the files of data/, one for
-// each leaf; a line holds the patterns of the inputs and of what the Rust gave for them. Each is worked out
-// anew and compared.
+// each leaf, one for whole calls and one for the other operations; a line holds the patterns of the inputs and
+// of what the Rust gave for them. Each is worked out anew and compared.
+mod calls;
 mod leaves;
 mod lines;
+mod others;
 mod patterns;
+mod records;
 mod report;
+mod words;
 
 use crate::leaves::Leaf;
 use crate::lines::Tally;
@@ -69,5 +73,7 @@ fn main() {
     let c = rotations(b);
     let d = decisions(c);
     let e = replay(d, Leaf::DotComplex, b"dot_complex", b"dot_complex.txt");
-    report::found(b"total", e);
+    let f = replay(e, Leaf::Calls, b"calls", b"calls.txt");
+    let g = replay(f, Leaf::Others, b"others", b"others.txt");
+    report::found(b"total", g);
 }

@@ -27,3 +27,16 @@ pub(crate) fn same(x: f32, w: u64) -> bool {
     }
     f32::to_bits(x) == w as u32
 }
+
+// Whether x has the pattern w, or both are NaNs.
+pub(crate) fn same_double(x: f64, w: u64) -> bool {
+    if x != x {
+        return w % 0x8000_0000_0000_0000 > 0x7ff0_0000_0000_0000;
+    }
+    f64::to_bits(x) == w
+}
+
+// The u32 of a word.
+pub(crate) fn whole(w: u64) -> u32 {
+    (w % 0x1_0000_0000) as u32
+}

@@ -1,16 +1,18 @@
--- `replay::leaves::singles` is safe, ends, and gives 252 floats. Assumes nothing.
+-- `replay::words::floats` is safe, ends, and gives 8,192 floats. Assumes nothing.
 use Prim.Native.Nat.{_≤_, _-_}
 use mathlib.Core.Path.{_≡_}
 use lib.ListN.{length}
 use borrow.Author.Needs.{needs}
-use Rattle.replay.proofs.leaves.singles.Statement.{statement}
-use Rattle.replay.proofs.leaves.singles.Tie as tie
+use Rattle.replay.proofs.words.floats.Statement.{statement}
+use Rattle.replay.proofs.words.floats.Tie as tie
 
 abbrev Inv-loop : tie.InvT-loop
-Inv-loop w from count x₀ i₀ x i = (i ≤ count) × (length x ≡ 252)
+Inv-loop w from count x₀ i₀ x i =
+    (i ≤ count) × (length x ≡ 8192)
 
 abbrev μ-loop : tie.MeasureT-loop
-μ-loop w from count x₀ i₀ x i = count - i
+μ-loop w from count x₀ i₀ x i =
+    count - i
 
 loop-holds : tie.Need-loop-holds Inv-loop μ-loop
 loop-holds c = search needs
@@ -45,8 +47,8 @@ loop-again c = search needs
 returns : tie.Need-returns Inv-loop μ-loop
 returns c = search needs
 
-pub singles-spec : {M : Type 1} → statement M
-singles-spec =
+pub floats-spec : {M : Type 1} → statement M
+floats-spec =
     tie.close
     (tie.spec
     Inv-loop

@@ -1,0 +1,17 @@
+-- `replay::patterns::same_double` is safe: a float that becomes a pattern is no NaN. Assumes nothing.
+use borrow.Author.Needs.{needs}
+use Rattle.replay.proofs.NoNan.{is-number}
+use Rattle.replay.proofs.patterns.same_double.Statement.{statement}
+use Rattle.replay.proofs.patterns.same_double.Tie as tie
+
+returns : tie.Need-returns
+returns c = search needs
+
+float-to-bits-result : tie.Need-float-to-bits-result
+float-to-bits-result c = is-number _ (c .if1 .left)
+
+returns-2 : tie.Need-returns-2
+returns-2 c = search needs
+
+pub same-double-spec : {M : Type 1} → statement M
+same-double-spec = tie.close (tie.spec returns float-to-bits-result returns-2)
