@@ -91,7 +91,7 @@ rangeRows =
     -- freq: the same below, and 0.125 above
     ∷ yes (freqFits (f32 0)) true ∷ yes (freqFits (f32 0x8000_0000)) false ∷ yes (freqFits (f32 0x8da2_4260)) true ∷ yes (freqFits (f32 0x8da2_425f)) false
     ∷ yes (freqFits (f32 0x3e00_0000)) true ∷ yes (freqFits (f32 0xbe00_0000)) true ∷ yes (freqFits (f32 0x3e00_0001)) false ∷ yes (freqFits nan) false ∷ yes (freqFits (inf false)) false
-    ∷ yes (countFits Cma 0 1) true ∷ yes (countFits Cma 1 1) false ∷ yes (countFits Decision 1 1) true ∷ yes (countFits Decision 0 1) false
+    ∷ yes (countFits Cma 0 1) true ∷ yes (countFits Cma 1 1) false ∷ yes (countFits Decision 1 1) true ∷ yes (countFits Decision 0 1) false ∷ yes (countFits Decision 2 1) false
     ∷ yes (countFits Cma 0 0) false ∷ yes (countFits Decision 0 0) true
     ∷ yes (countFits Cma 0 4294967295) true ∷ yes (countFits Cma 1 4294967295) false ∷ yes (countFits Decision 4294967295 4294967295) false
     ∷ []

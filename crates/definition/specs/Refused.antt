@@ -246,6 +246,7 @@ callRows =
     ∷ callReplies (startWith (recordOf (settings 1 1000) Cma 999 0x3c07_6966 0x3967_1b0a 0)) four four (marks 2) []
     ∷ callReplies (startWith (recordOf (settings 1 1000) Decision 1000 0x3c07_6966 0x3967_1b0a 0)) four four (marks 2) []
     ∷ callRefused (startWith (recordOf (settings 1 1000) Decision 999 0x3c07_6966 0x3967_1b0a 0)) four four (marks 2) (8 ∷ [])
+    ∷ callRefused (startWith (recordOf (settings 1 1000) Decision 1001 0x3c07_6966 0x3967_1b0a 0)) four four (marks 2) (8 ∷ [])
     ∷ callReplies (startWith (recordOf (settings 1 4294967295) Cma 0 0x3c07_6966 0x3967_1b0a 0)) four four (marks 2) []
     ∷ callRefused (startWith (recordOf (settings 1 4294967295) Cma 1 0x3c07_6966 0x3967_1b0a 0)) four four (marks 2) (8 ∷ [])
     ∷ callRefused (startWith (recordOf (settings 1 4294967295) Decision 4294967295 0x3c07_6966 0x3967_1b0a 0)) four four (marks 2) (8 ∷ [])

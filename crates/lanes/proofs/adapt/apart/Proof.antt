@@ -1,0 +1,18 @@
+use Rattle.lanes.specs.Steps.{uneven}
+use Prim.Native.Nat.{ℕ, _+_, _-_, _*_, _/_, _%_, _≤_, _<_}
+use mathlib.Core.Path.{_≡_, refl, sym, _∙_, ap}
+use lib.ListN.{length, getD, set, length-set}
+use native.Mathlib.Omega.{arith}
+use borrow.Author.Needs.{needs}
+use Rattle.lanes.proofs.adapt.apart.Statement.{statement}
+use Rattle.lanes.proofs.adapt.apart.Tie as tie
+use Rattle.lanes.proofs.adapt.apart.Reads as reads
+use Rattle.lanes.proofs.adapt.apart.Lts as lts
+
+-- src/adapt.rt:16:1
+returns : tie.Need-returns
+unfolding uneven
+returns c = search needs
+
+pub apart-spec : {M : Type 1} → statement M
+apart-spec = tie.close (tie.spec returns)

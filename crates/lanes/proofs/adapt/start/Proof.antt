@@ -1,0 +1,31 @@
+use Rattle.lanes.specs.Adapts.{startIn}
+use Prim.Native.Nat.{ℕ, _+_, _-_, _*_, _/_, _%_, _≤_, _<_}
+use mathlib.Core.Path.{_≡_, refl, sym, _∙_, ap}
+use lib.ListN.{length, getD, set, length-set}
+use native.Mathlib.Omega.{arith}
+use borrow.Author.Needs.{needs}
+use Rattle.lanes.proofs.adapt.start.Statement.{statement}
+use Rattle.lanes.proofs.adapt.start.Tie as tie
+use Rattle.lanes.proofs.adapt.start.Reads as reads
+use Rattle.lanes.proofs.adapt.start.Lts as lts
+
+-- src/adapt.rt:113:9
+mul-w : tie.Need-mul-w
+mul-w c = search needs
+
+-- src/adapt.rt:113:9
+element-write-w : tie.Need-element-write-w
+element-write-w c = search needs
+
+-- src/adapt.rt:108:1
+returns : tie.Need-returns
+unfolding startIn
+returns c = rw (c .if1 .taken)
+
+-- src/adapt.rt:108:1
+returns-2 : tie.Need-returns-2
+unfolding startIn
+returns-2 c = rw (c .if1 .left)
+
+pub start-spec : {M : Type 1} → statement M
+start-spec = tie.close (tie.spec mul-w element-write-w returns returns-2)

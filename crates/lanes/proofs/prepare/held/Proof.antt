@@ -1,0 +1,23 @@
+use Rattle.lanes.specs.Ahead.{heldOf}
+use Prim.Native.Nat.{ℕ, _+_, _-_, _*_, _/_, _%_, _≤_, _<_}
+use mathlib.Core.Path.{_≡_, refl, sym, _∙_, ap}
+use lib.ListN.{length, getD, set, length-set}
+use native.Mathlib.Omega.{arith}
+use borrow.Author.Needs.{needs}
+use Rattle.lanes.proofs.prepare.held.Statement.{statement}
+use Rattle.lanes.proofs.prepare.held.Tie as tie
+use Rattle.lanes.proofs.prepare.held.Reads as reads
+use Rattle.lanes.proofs.prepare.held.Lts as lts
+
+-- src/prepare.rt:11:1
+returns : tie.Need-returns
+unfolding heldOf
+returns c = rw (c .if1 .taken)
+
+-- src/prepare.rt:11:1
+returns-2 : tie.Need-returns-2
+unfolding heldOf
+returns-2 c = rw (c .if1 .left)
+
+pub held-spec : {M : Type 1} → statement M
+held-spec = tie.close (tie.spec returns returns-2)

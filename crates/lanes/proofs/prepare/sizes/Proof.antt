@@ -1,0 +1,46 @@
+use Rattle.lanes.proofs.Clocks.{left-most, sized}
+use Prim.Native.Nat.{ℕ, _+_, _-_, _*_, _/_, _%_, _≤_, _<_}
+use mathlib.Core.Path.{_≡_, refl, sym, _∙_, ap}
+use lib.ListN.{length, getD, set, length-set}
+use native.Mathlib.Omega.{arith}
+use borrow.Author.Needs.{needs}
+use Rattle.lanes.proofs.prepare.sizes.Statement.{statement}
+use Rattle.lanes.proofs.prepare.sizes.Tie as tie
+use Rattle.lanes.proofs.prepare.sizes.Reads as reads
+use Rattle.lanes.proofs.prepare.sizes.Lts as lts
+use Rattle.lanes.proofs.prepare.cma_left.Reads as cma-left-reads
+use Rattle.lanes.proofs.prepare.divide.Reads as divide-reads
+use Rattle.lanes.proofs.prepare.least.Reads as least-reads
+
+-- src/prepare.rt:165:21
+cma-left-requires : tie.Need-cma-left-requires
+cma-left-requires c κs = search needs
+
+-- src/prepare.rt:165:16
+sub-edge : tie.Need-sub-edge
+sub-edge c =
+    let s = c .before .before .args .s in
+    omega (arith, c .cma-left .ensures, left-most (s .mode) (s .params .«cma_symbols») (s .count))
+
+-- src/prepare.rt:166:9
+least-requires : tie.Need-least-requires
+least-requires c κs = search needs
+
+-- src/prepare.rt:167:5
+divide-requires : tie.Need-divide-requires
+divide-requires c κs = search needs
+
+-- src/prepare.rt:168:5
+divide-requires-2 : tie.Need-divide-requires-2
+divide-requires-2 c κs = search needs
+
+-- src/prepare.rt:159:1
+returns : tie.Need-returns
+returns c =
+    let l = c .before .before .before .before .least .ensures in
+    sized _ _ _ _ _ _ _ _ (c .before .before .before .before .before .cma-left .ensures) (l .0) (l .1 .0) (c .before .before .divide .ensures) (c .divide2 .ensures)
+
+pub sizes-spec : {M : Type 1} → statement M
+sizes-spec =
+    tie.close
+    (tie.spec cma-left-requires sub-edge least-requires divide-requires divide-requires-2 returns)
