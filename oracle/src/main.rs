@@ -5,6 +5,8 @@
 
 include!(concat!(env!("OUT_DIR"), "/sdrk/mods.rs"));
 
+#[cfg(feature = "bench")]
+mod bench;
 mod calls;
 mod cases;
 mod inputs;
@@ -19,7 +21,8 @@ use std::process::ExitCode;
 
 const USAGE: &str = "usage: oracle leaves OUT_FOLDER
        oracle calls SEED COUNT [--long] [FILE]
-       oracle others SEED COUNT [FILE]";
+       oracle others SEED COUNT [FILE]
+       oracle bench [SECONDS]      (with the feature bench)";
 
 fn main() -> ExitCode {
     let args: Vec<String> = std::env::args().skip(1).collect();
@@ -47,6 +50,10 @@ fn run(words: &[&str]) -> io::Result<bool> {
         ["others", seed, count, ref file @ ..] if file.len() < 2 => {
             others::write(&mut out(file)?, whole(seed)?, whole(count)?).map(|()| true)
         }
+        #[cfg(feature = "bench")]
+        ["bench"] => bench::write(&mut io::stdout(), 1),
+        #[cfg(feature = "bench")]
+        ["bench", seconds] => bench::write(&mut io::stdout(), whole(seconds)?),
         _ => Err(io::Error::other(USAGE)),
     }
 }

@@ -1,0 +1,107 @@
+-- The exported calls, from the calls: one law for each exit. Assumes nothing.
+use Prim.Native.Nat.{ℕ}
+use mathlib.Core.Path.{_≡_, ap}
+use mathlib.Core.Bool.{Bool, true, false, _&&_}
+use mathlib.Core.List.{List}
+use lib.ListN.{length}
+use lib.Ieee.{Float}
+use Rattle.definition.specs.declared.EqParams.{EqParams}
+use Rattle.definition.specs.declared.EqualizeState.{EqualizeState}
+use Rattle.definition.specs.declared.Equalized.{Equalized}
+use Rattle.definition.specs.declared.Error.{Error}
+use Rattle.definition.specs.declared.Error.the-variants.{Odd, Record}
+use Rattle.definition.specs.declared.Fresh.{Fresh}
+use Rattle.definition.specs.declared.Fresh.the-variants.{Made, NotMade}
+use Rattle.definition.specs.declared.Outcome.the-variants.{Served, Refused}
+use Rattle.definition.specs.Refusals.{replyOf, freshReply, firstOf}
+use Rattle.definition.specs.Packed.{equalizer, made, resetTo, settled, answered}
+use Rattle.definition.specs.Calls.{even, newDef, resetDef, setMuCmaDef, setMuDdDef, setFrequencyDef, equalizeDef}
+use Rattle.capi.specs.declared.EqSettings.{EqSettings}
+use Rattle.capi.specs.declared.EqRecord.{EqRecord}
+use Rattle.capi.specs.declared.EqReply.{EqReply}
+use Rattle.capi.specs.Raw.{knownSettings, knownRecord, settingsIn, recordIn, recordOut, noRecord, replied, unknown, filter, freshOut, newOut, newRaw, resetOut, resetRaw, setOut, setMuCmaRaw, setMuDdRaw, setFrequencyRaw, block, blockOut, equalizeRaw}
+
+-- ---- replies
+
+module _ (f : Fresh) (t : EqRecord) (r : EqReply) where
+  pub fresh-made : (s : EqualizeState) → f ≡ Made s → t ≡ recordOut s → r ≡ replied t (replyOf Served) → r ≡ replied (freshOut f) (freshReply f)
+  fresh-made s h a b = rw (h, ← a) b
+
+  pub fresh-none : (e : Error) → f ≡ NotMade e → t ≡ noRecord → r ≡ replied t (replyOf (Refused e)) → r ≡ replied (freshOut f) (freshReply f)
+  fresh-none e h a b = rw (h, ← a) b
+
+module _ (e : Equalized) (t : EqRecord) (r : EqReply) (a : t ≡ recordOut (e .state)) where
+  pub reply-served : e .outcome ≡ Served → r ≡ replied t (replyOf Served) → r ≡ replied (recordOut (e .state)) (replyOf (e .outcome))
+  reply-served h b = rw (h, ← a) b
+
+  pub reply-refused : (x : Error) → e .outcome ≡ Refused x → r ≡ replied t (replyOf (Refused x)) → r ≡ replied (recordOut (e .state)) (replyOf (e .outcome))
+  reply-refused x h b = rw (h, ← a) b
+
+module _ (t : EqRecord) (b : Bool) (r : EqReply) where
+  pub unknown-8 : b ≡ true → r ≡ replied t (replyOf (Refused Record)) → r ≡ replied t (unknown b)
+  unfolding unknown firstOf
+  unknown-8 h e = rw h e
+
+  pub unknown-1 : b ≡ false → r ≡ replied t (replyOf (Refused Odd)) → r ≡ replied t (unknown b)
+  unfolding unknown firstOf
+  unknown-1 h e = rw h e
+
+-- ---- new
+
+module _ (p : EqSettings) (w h : List Float) (b : Bool) (r : EqReply) (k : b ≡ knownSettings p) where
+  pub new-unknown : (e : Bool) (t : EqRecord) → b ≡ false → t ≡ noRecord → e ≡ (even (length w) && even (length h)) → r ≡ replied t (unknown e) → filter r w h ≡ newRaw p w h
+  unfolding newRaw
+  new-unknown e t n a x d = rw (← k, n, d, a, x)
+
+  pub new-known : (q : EqParams) (f : Fresh) (w′ h′ : List Float) → b ≡ true → q ≡ settingsIn p → made f w′ h′ ≡ newDef q w h → r ≡ replied (freshOut f) (freshReply f)
+      → filter r w′ h′ ≡ newRaw p w h
+  unfolding newRaw
+  new-known q f w′ h′ y a m d = rw (← k, y, d, ← a) (ap newOut m)
+
+-- ---- all that take a record
+
+module _ (p : EqRecord) (b : Bool) (r : EqReply) (k : b ≡ knownRecord p) where
+  module _ (n : b ≡ false) where
+    pub reset-unknown : (w h : List Float) (e : Bool) → e ≡ (even (length w) && even (length h)) → r ≡ replied p (unknown e) → filter r w h ≡ resetRaw p w h
+    unfolding resetRaw
+    reset-unknown w h e x d = rw (← k, n, d, x)
+
+    pub cma-unknown : (mu : Float) → r ≡ replied p (unknown true) → r ≡ setMuCmaRaw p mu
+    unfolding setMuCmaRaw
+    cma-unknown mu d = rw (← k, n) d
+
+    pub dd-unknown : (mu : Float) → r ≡ replied p (unknown true) → r ≡ setMuDdRaw p mu
+    unfolding setMuDdRaw
+    dd-unknown mu d = rw (← k, n) d
+
+    pub frequency-unknown : (v : Float) → r ≡ replied p (unknown true) → r ≡ setFrequencyRaw p v
+    unfolding setFrequencyRaw
+    frequency-unknown v d = rw (← k, n) d
+
+    pub block-unknown : (w h xs ys : List Float) (ms : List ℕ) (e : Bool) → e ≡ (even (length w) && even (length h) && even (length xs) && even (length ys)) → r ≡ replied p (unknown e)
+        → block r w h ys ms ≡ equalizeRaw p w h xs ys ms
+    unfolding equalizeRaw
+    block-unknown w h xs ys ms e x d = rw (← k, n, d, x)
+
+  module _ (s : EqualizeState) (y : b ≡ true) (a : s ≡ recordIn p) where
+    pub frequency-known : (v : Float) (q : EqualizeState) (t : EqRecord) → q ≡ setFrequencyDef s v → t ≡ recordOut q → r ≡ replied t (replyOf Served) → r ≡ setFrequencyRaw p v
+    unfolding setFrequencyRaw
+    frequency-known v q t m o d = rw (← k, y, ← a, ← m, ← o) d
+
+    module _ (e : Equalized) (d : r ≡ replied (recordOut (e .state)) (replyOf (e .outcome))) where
+      pub reset-known : (w h w′ h′ : List Float) → resetTo e w′ h′ ≡ resetDef (equalizer s w h) → filter r w′ h′ ≡ resetRaw p w h
+      unfolding resetRaw
+      reset-known w h w′ h′ m = rw (← k, y, d, ← a) (ap resetOut m)
+
+      pub cma-known : (mu : Float) → settled e ≡ setMuCmaDef s mu → r ≡ setMuCmaRaw p mu
+      unfolding setMuCmaRaw
+      cma-known mu m = rw (← k, y, d, ← a) (ap setOut m)
+
+      pub dd-known : (mu : Float) → settled e ≡ setMuDdDef s mu → r ≡ setMuDdRaw p mu
+      unfolding setMuDdRaw
+      dd-known mu m = rw (← k, y, d, ← a) (ap setOut m)
+
+      pub block-known : (w h xs ys : List Float) (ms : List ℕ) (w′ h′ ys′ : List Float) (ms′ : List ℕ) → answered e w′ h′ ys′ ms′ ≡ equalizeDef (equalizer s w h) xs ys ms
+          → block r w′ h′ ys′ ms′ ≡ equalizeRaw p w h xs ys ms
+      unfolding equalizeRaw
+      block-known w h xs ys ms w′ h′ ys′ ms′ m = rw (← k, y, d, ← a) (ap blockOut m)
