@@ -81,7 +81,11 @@ EqReply eq_set_mu_dd(EqRecord record, float mu);
 /* The tracker's frequency: held to 0.125, below 1e-30 is 0, a NaN is 0. Refusal 8 for an unknown constellation or mode. */
 EqReply eq_set_frequency(EqRecord record, float freq);
 
-/* A block by the plain path: a symbol and a mark for each sample. Refusals 1, 8, 9 and 10. */
+/* A block: a symbol and a mark for each sample. Quick path without feedback taps, joint path with them. Refusals 1, 8, 9 and 10. */
+EqReply eq_equalize(EqRecord record, float *weights, size_t weights_count, float *window, size_t window_count,
+                    const float *input, size_t input_count, float *output, size_t output_count, uint8_t *marks, size_t marks_count);
+
+/* The same by the plain path. */
 EqReply eq_reference(EqRecord record, float *weights, size_t weights_count, float *window, size_t window_count,
                      const float *input, size_t input_count, float *output, size_t output_count, uint8_t *marks, size_t marks_count);
 

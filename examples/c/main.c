@@ -26,13 +26,13 @@ int main(void)
     }
     input[2 * 8] = NAN;
 
-    r = eq_reference(r.record, weights, 2 * TAPS, window, 2 * TAPS, input, 2 * SAMPLES, output, 2 * SAMPLES, marks, SAMPLES);
-    printf("reference: number %u, count %u, mean error %.4f\n", (unsigned)r.number, (unsigned)r.record.count, r.record.mse);
+    r = eq_equalize(r.record, weights, 2 * TAPS, window, 2 * TAPS, input, 2 * SAMPLES, output, 2 * SAMPLES, marks, SAMPLES);
+    printf("equalize: number %u, count %u, mean error %.4f\n", (unsigned)r.number, (unsigned)r.record.count, r.record.mse);
     for (int i = 0; i < SAMPLES; i++)
         printf("%2d  %8.5f %8.5f  %s\n", i, output[2 * i], output[2 * i + 1], says[marks[i]]);
 
     /* one mark too few */
-    r = eq_reference(r.record, weights, 2 * TAPS, window, 2 * TAPS, input, 2 * SAMPLES, output, 2 * SAMPLES, marks, SAMPLES - 1);
+    r = eq_equalize(r.record, weights, 2 * TAPS, window, 2 * TAPS, input, 2 * SAMPLES, output, 2 * SAMPLES, marks, SAMPLES - 1);
     printf("refused: number %u, expected %zu, got %zu\n", (unsigned)r.number, r.expected, r.got);
     return 0;
 }

@@ -4,7 +4,7 @@
 use std::io::{self, Write};
 
 use crate::Reference;
-use crate::cases::{Case, case};
+use crate::cases::{Case, case, stream};
 use crate::inputs::Random;
 use crate::kernels::dot::DotComplex;
 use crate::kernels::equalize::{EqMode, Equalize, EqualizeState, OracleRecord, equalize_with};
@@ -48,6 +48,27 @@ pub fn write(out: &mut impl Write, seed: u64, count: u64, long: bool) -> io::Res
     }
     out.flush()?;
     eprintln!("calls: {count} lines, {seen:?}");
+    Ok(seen.disagreements == 0)
+}
+
+/// Writes `rounds` streams of 200 samples, each cut into two calls at every place, and each with the
+/// switch of mode after each of the first 64 samples.
+pub fn write_places(out: &mut impl Write, seed: u64, rounds: u64) -> io::Result<bool> {
+    let mut r = Random::new(seed);
+    let mut seen = Seen::default();
+    let mut lines = 0u64;
+    for _ in 0..rounds {
+        let base = stream(&mut r, 200);
+        let cuts = (0..=200).map(|k| base.with_blocks([k, 200 - k]));
+        let switches = (0..64).map(|p| base.switching_after(p + 1));
+        for case in cuts.chain(switches) {
+            let (answer, marks) = answer(&case, &mut seen);
+            line(&case, &answer, &marks).write(out)?;
+            lines += 1;
+        }
+    }
+    out.flush()?;
+    eprintln!("places: {lines} lines, {seen:?}");
     Ok(seen.disagreements == 0)
 }
 

@@ -13,12 +13,42 @@ pub const CONSTELLATIONS: [EqConstellation; 5] = [
 ];
 
 /// What an equalizer holds, and the samples of two calls.
+#[derive(Clone)]
 pub struct Case {
     pub record: OracleRecord,
     pub weights: Vec<C32>,
     pub window: Vec<C32>,
     pub blocks: [usize; 2],
     pub input: Vec<C32>,
+}
+
+impl Case {
+    /// The same, in two calls of other lengths.
+    pub fn with_blocks(&self, blocks: [usize; 2]) -> Case {
+        Case {
+            blocks,
+            ..self.clone()
+        }
+    }
+
+    /// The same in Cma, with `left` samples to the switch of mode.
+    pub fn switching_after(&self, left: u32) -> Case {
+        let mut c = self.with_blocks([self.input.len(), 0]);
+        c.record.params.cma_symbols = 1000;
+        c.record.mode = EqMode::Cma;
+        c.record.count = 1000 - left;
+        c
+    }
+}
+
+/// An accepted case with `length` samples, those of as many cases as it takes.
+pub fn stream(r: &mut Random, length: usize) -> Case {
+    let mut c = case(r, false);
+    while c.input.len() < length {
+        c.input.extend(case(r, false).input);
+    }
+    c.input.truncate(length);
+    c.with_blocks([length, 0])
 }
 
 /// An accepted case.

@@ -21,6 +21,7 @@ use std::process::ExitCode;
 
 const USAGE: &str = "usage: oracle leaves OUT_FOLDER
        oracle calls SEED COUNT [--long] [FILE]
+       oracle places SEED ROUNDS [FILE]
        oracle others SEED COUNT [FILE]
        oracle bench [SECONDS]      (with the feature bench)";
 
@@ -46,6 +47,9 @@ fn run(words: &[&str]) -> io::Result<bool> {
         }
         ["calls", seed, count, ref file @ ..] if file.len() < 2 => {
             calls::write(&mut out(file)?, whole(seed)?, whole(count)?, false)
+        }
+        ["places", seed, rounds, ref file @ ..] if file.len() < 2 => {
+            calls::write_places(&mut out(file)?, whole(seed)?, whole(rounds)?)
         }
         ["others", seed, count, ref file @ ..] if file.len() < 2 => {
             others::write(&mut out(file)?, whole(seed)?, whole(count)?).map(|()| true)

@@ -67,6 +67,19 @@ unsafe extern "C" {
     pub safe fn eq_set_mu_cma(record: EqRecord, mu: f32) -> EqReply;
     pub safe fn eq_set_mu_dd(record: EqRecord, mu: f32) -> EqReply;
     pub safe fn eq_set_frequency(record: EqRecord, freq: f32) -> EqReply;
+    pub fn eq_equalize(
+        record: EqRecord,
+        weights: *mut f32,
+        weights_count: usize,
+        window: *mut f32,
+        window_count: usize,
+        input: *const f32,
+        input_count: usize,
+        output: *mut f32,
+        output_count: usize,
+        marks: *mut u8,
+        marks_count: usize,
+    ) -> EqReply;
     pub fn eq_reference(
         record: EqRecord,
         weights: *mut f32,

@@ -14,9 +14,6 @@ pub const BLANK: u8 = 1;
 /// Of one that is finite where its filter sum is not.
 pub const SPILLED: u8 = 2;
 
-/// What [`Equalizer::equalize`] calls.
-const EQUALIZE: ffi::Block = ffi::eq_reference;
-
 #[derive(Debug, Clone, Copy, PartialEq, Eq)]
 pub enum Constellation {
     Bpsk,
@@ -245,7 +242,7 @@ impl Equalizer {
         output: &mut [f32],
         marks: &mut [u8],
     ) -> Result<(), Error> {
-        self.block(EQUALIZE, input, output, marks)
+        self.block(ffi::eq_equalize, input, output, marks)
     }
 
     /// The same by the plain path, for comparison.

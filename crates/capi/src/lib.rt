@@ -369,6 +369,30 @@ pub extern "C" fn eq_set_frequency(raw: EqRecord, freq: f32) -> EqReply
     served(record_out(next))
 }
 
+// A block of samples: the quick path without feedback taps, the joint path with them. Same answer as `eq_reference`.
+#[no_mangle]
+pub extern "C" fn eq_equalize(
+    raw: EqRecord,
+    weights: &mut [f32],
+    window: &mut [f32],
+    input: &[f32],
+    output: &mut [f32],
+    marks: &mut [u8],
+) -> EqReply
+    ensures { λ r. ⌜ block r (now (weights .exit)) (now (window .exit)) (now (output .exit)) (now (marks .exit))
+        ≡ equalizeRaw raw (now (weights .entry)) (now (window .entry)) (now (input .entry)) (now (output .entry)) (now (marks .entry)) ⌝ }
+{
+    if !known_record(raw) {
+        return unknown(
+            raw,
+            all_even(weights.len(), window.len(), input.len(), output.len()),
+        );
+    }
+    let state = record_in(raw);
+    let e = equalize::equalize(state, weights, window, input, output, marks);
+    reply(e)
+}
+
 // A block of samples by the plain path. Refusals 1, 8, 9 and 10.
 #[no_mangle]
 pub extern "C" fn eq_reference(

@@ -16,9 +16,10 @@ mod verdict;
 ghost use mathlib.Core.Path.{_≡_};
 ghost use Prim.Native.Nat.{_*_, _/_, _≤_};
 ghost use lib.ListN.{length};
-ghost use Rattle.definition.specs.Slices.{zeros, startWeights};
-ghost use Rattle.definition.specs.Packed.{equalizer, made, resetTo, settled};
-ghost use Rattle.definition.specs.Calls.{freshState, newDef, resetDef, setMuCmaDef, setMuDdDef, setFrequencyDef};
+ghost use Rattle.definition.specs.Slices.{zeros, startWeights, samplesOf};
+ghost use Rattle.definition.specs.Packed.{equalizer, made, resetTo, settled, answered, Shaped, Ran};
+ghost use Rattle.definition.specs.Run.{runDef};
+ghost use Rattle.definition.specs.Calls.{freshState, newDef, resetDef, setMuCmaDef, setMuDdDef, setFrequencyDef, equalizeDef};
 
 // The start weights and a window of zeros: n taps, f of them forward.
 fn start_over(w: &mut [f32], h: &mut [f32], n: usize, f: usize)
@@ -121,4 +122,60 @@ pub fn set_frequency(state: EqualizeState, freq: f32) -> EqualizeState
     }
     next.freq = costas::integrate(freq, EqualizeState::PHASE_MAX_FREQ);
     next
+}
+
+// Blocks shorter than this go sample by sample: a run of 64 is not worth its start.
+const SHORT: usize = 8;
+
+// The samples of an accepted call: quick path without feedback taps, joint path with them, both in runs of 64.
+fn serve(
+    state: EqualizeState,
+    weights: &mut [f32],
+    window: &mut [f32],
+    input: &[f32],
+    output: &mut [f32],
+    marks: &mut [u8],
+) -> EqualizeState
+    requires { ⌜ Shaped (equalizer state (now weights) (now window)) (now input) (now output) (now marks) ⌝ }
+    ensures { λ r. ⌜ Ran (runDef (equalizer state (now (weights .entry)) (now (window .entry))) (samplesOf (now (input .entry))))
+        (equalizer r (now (weights .exit)) (now (window .exit))) (now (output .exit)) (now (marks .exit)) ⌝ }
+{
+    let table = &tables::COS_BITS;
+    if marks.len() < SHORT {
+        reference::run(table, state, weights, window, input, output, marks)
+    } else {
+        runs::equalize_runs(table, state, weights, window, input, output, marks)
+    }
+}
+
+// A block of samples, or a refusal (1, 8, 9, 10) that leaves all as it was. Same answer as `reference::equalize`.
+pub fn equalize(
+    state: EqualizeState,
+    weights: &mut [f32],
+    window: &mut [f32],
+    input: &[f32],
+    output: &mut [f32],
+    marks: &mut [u8],
+) -> Equalized
+    ensures { λ r. ⌜ answered r (now (weights .exit)) (now (window .exit)) (now (output .exit)) (now (marks .exit))
+        ≡ equalizeDef (equalizer state (now (weights .entry)) (now (window .entry))) (now (input .entry)) (now (output .entry)) (now (marks .entry)) ⌝ }
+{
+    let v = verdict::verdict(
+        state,
+        weights,
+        window,
+        input.len(),
+        output.len(),
+        marks.len(),
+    );
+    match v {
+        Outcome::Refused(e) => Equalized { state, outcome: v },
+        Outcome::Served => {
+            let next = serve(state, weights, window, input, output, marks);
+            Equalized {
+                state: next,
+                outcome: v,
+            }
+        }
+    }
 }

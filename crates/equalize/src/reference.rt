@@ -183,7 +183,7 @@ fn sample(t: &[u32; 4097], s: EqualizeState, w: &mut [f32], h: &mut [f32], x: C3
 }
 
 // A block of samples.
-fn run(
+pub(crate) fn run(
     t: &[u32; 4097],
     state: EqualizeState,
     weights: &mut [f32],

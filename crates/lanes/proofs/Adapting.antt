@@ -1,6 +1,6 @@
 -- The three exits of `adapt`. Assumes nothing.
 use Prim.Native.Nat.{ℕ, _+_, _-_, _*_, _/_, _%_, _<_, _≤_}
-use mathlib.Core.Path.{_≡_, refl, sym, _∙_, subst}
+use mathlib.Core.Path.{_≡_, refl, sym, _∙_, ap, subst}
 use mathlib.Core.Bool.{Bool, true, false, _||_}
 use mathlib.Core.List.{List}
 use native.Mathlib.Omega.{arith}
@@ -195,3 +195,14 @@ module _ (wr wi wl xr xi : List Float) (at lanes : ℕ) (vr vi vl dr di : List F
   adapt-settled u wr″ wi″ vr″ vi″ e s = record {
     holds = λ n m w h r. rw e (settled-go n m w h r wr″ wi″ vr″ vi″ s (ruined wr′ wi′ wl vr′ vi′ vl) refl);
   }
+
+-- ---- the lanes stay 72
+started-long : (b : Bool) (c : ℕ) (l : List Float) → length (startIn b c l) ≡ length l
+unfolding startIn
+started-long true c l = simp length-set
+started-long false c l = refl
+
+pub settled-long : (wr wi wl vr vi vl : List Float) (centre : ℕ) (wr′ wi′ vr′ vi′ : List Float) → length wr ≡ 72 → length wi ≡ 72 → length vr ≡ 72 → length vi ≡ 72
+    → Settled wr wi wl vr vi vl centre wr′ wi′ vr′ vi′ → (length wr′ ≡ 72) × ((length wi′ ≡ 72) × ((length vr′ ≡ 72) × (length vi′ ≡ 72)))
+settled-long wr wi wl vr vi vl centre wr′ wi′ vr′ vi′ a b c d s =
+    (ap length (s .started) ∙ started-long (ruined wr wi wl vr vi vl) centre (s .mid) ∙ s .re .long ∙ a, (s .im .long ∙ b, (s .back-re .long ∙ c, s .back-im .long ∙ d)))

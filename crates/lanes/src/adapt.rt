@@ -158,6 +158,7 @@ pub fn adapt(
     requires { ⌜ (at + lanes ≤ 144) × (lanes ≤ 72) ⌝ }
     requires { ⌜ (bt + more ≤ 144) × ((more ≤ 72) × (centre < 72)) ⌝ }
     ensures { λ _. ⌜ Adapts u (now (wr .entry)) (now (wi .entry)) (now (wl .entry)) (now (xr .entry)) (now (xi .entry)) at lanes (now (vr .entry)) (now (vi .entry)) (now (vl .entry)) (now (dr .entry)) (now (di .entry)) bt more centre (now (wr .exit)) (now (wi .exit)) (now (vr .exit)) (now (vi .exit)) ⌝ }
+    ensures { λ _. ⌜ (length (now (wr .exit)) ≡ 72) × ((length (now (wi .exit)) ≡ 72) × ((length (now (vr .exit)) ≡ 72) × (length (now (vi .exit)) ≡ 72))) ⌝ }
 {
     let Update::Step(gr, gi) = u else {
         return;

@@ -160,6 +160,7 @@ pub fn sizes(steps: &mut [f32; 64], power: &[f32; 64], s: EqualizeState, from: u
     requires { ⌜ length (now steps) ≡ 64 ⌝ }
     requires { ⌜ from ≤ 64 ⌝ }
     ensures { λ _. ⌜ Sized s (now (power .entry)) from (now (steps .exit)) ⌝ }
+    ensures { λ _. ⌜ length (now (steps .exit)) ≡ 64 ⌝ }
 {
     let p = s.params;
     let edge = 64 - cma_left(s);

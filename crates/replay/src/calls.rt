@@ -67,8 +67,26 @@ fn same_marks(marks: &[u8; 4096], w: &Words, from: usize, count: usize) -> bool
     true
 }
 
+// The plain path, or the quick and the joint path.
+fn by_path(
+    plain: bool,
+    state: EqualizeState,
+    weights: &mut [f32],
+    window: &mut [f32],
+    input: &[f32],
+    output: &mut [f32],
+    marks: &mut [u8],
+) -> Equalized {
+    if plain {
+        equalize::reference::equalize(state, weights, window, input, output, marks)
+    } else {
+        equalize::equalize(state, weights, window, input, output, marks)
+    }
+}
+
 // One call, on the samples from `a` to `e`.
 fn call(
+    plain: bool,
     state: EqualizeState,
     weights: &mut [f32],
     window: &mut [f32],
@@ -85,7 +103,8 @@ fn call(
 {
     let a2 = 2 * a;
     let e2 = 2 * e;
-    equalize::reference::equalize(
+    by_path(
+        plain,
         state,
         &mut weights[..parts],
         &mut window[..parts],
@@ -103,6 +122,7 @@ struct Both {
 
 // Two calls, of the first k1 and of the rest of k samples.
 fn two_calls(
+    plain: bool,
     state: EqualizeState,
     weights: &mut [f32],
     window: &mut [f32],
@@ -116,9 +136,31 @@ fn two_calls(
     requires { ⌜ Lent (length (now weights)) (length (now window)) (length (now output)) (length (now marks)) ⌝ }
     requires { ⌜ (length (now input) ≡ 8192) × ((parts ≤ 8192) × ((k1 ≤ k) × (k ≤ 4096))) ⌝ }
 {
-    let first = call(state, weights, window, parts, input, output, marks, 0, k1);
+    let first = call(
+        plain,
+        state,
+        weights,
+        window,
+        parts,
+        input,
+        output,
+        marks,
+        0,
+        k1,
+    );
     let between = first.state;
-    let last = call(between, weights, window, parts, input, output, marks, k1, k);
+    let last = call(
+        plain,
+        between,
+        weights,
+        window,
+        parts,
+        input,
+        output,
+        marks,
+        k1,
+        k,
+    );
     let one = first.outcome;
     Both { first: one, last }
 }
@@ -157,7 +199,7 @@ fn as_expected(
 }
 
 // Output and marks start from what no call writes.
-fn replayed(w: &Words, start: EqualizeState, parts: usize, k1: usize, k: usize) -> bool
+fn replayed(w: &Words, plain: bool, start: EqualizeState, parts: usize, k1: usize, k: usize) -> bool
     requires { ⌜ (parts ≤ 256) × ((k1 ≤ k) × (k ≤ 4096)) ⌝ }
 {
     let mut weights = floats(w, 17, parts);
@@ -166,6 +208,7 @@ fn replayed(w: &Words, start: EqualizeState, parts: usize, k1: usize, k: usize) 
     let mut output = [0.0f32 / 0.0; 8192];
     let mut marks = [255u8; 4096];
     let done = two_calls(
+        plain,
         start,
         &mut weights,
         &mut window,
@@ -196,5 +239,8 @@ pub(crate) fn agrees(w: &Words) -> bool {
     if k2 > MOST_SAMPLES - k1 {
         return false;
     }
-    replayed(w, start, 2 * (n as usize), k1 as usize, (k1 + k2) as usize)
+    let parts = 2 * (n as usize);
+    let first = k1 as usize;
+    let all = (k1 + k2) as usize;
+    replayed(w, true, start, parts, first, all) & replayed(w, false, start, parts, first, all)
 }

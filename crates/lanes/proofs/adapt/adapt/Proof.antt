@@ -1,4 +1,4 @@
-use Rattle.lanes.proofs.Adapting.{adapt-hold, adapt-calm, adapt-settled}
+use Rattle.lanes.proofs.Adapting.{adapt-hold, adapt-calm, adapt-settled, settled-long}
 use Prim.Native.Nat.{ℕ, _+_, _-_, _*_, _/_, _%_, _≤_, _<_}
 use mathlib.Core.Path.{_≡_, refl, sym, _∙_, ap}
 use lib.ListN.{length, getD, set, length-set}
@@ -21,7 +21,7 @@ enum-told c = search needs
 
 -- src/adapt.rt:163:9
 returns : tie.Need-returns
-returns c = adapt-hold _ _ _ _ _ _ _ _ _ _ _ _ _ _ _ _ (c .enum-told .given .1)
+returns c = (adapt-hold _ _ _ _ _ _ _ _ _ _ _ _ _ _ _ _ (c .enum-told .given .1), c .before .before .pre .0)
 
 -- src/adapt.rt:165:9
 lanes-step-requires : tie.Need-lanes-step-requires
@@ -44,14 +44,14 @@ returns-2 : tie.Need-returns-2
 returns-2 c =
     let s = c .before .before .before .before .before .before .before .before .before .lanes-step .ensures in
     let t = c .before .before .before .before .before .before .lanes-step2 .ensures in
-    adapt-settled _ _ _ _ _ _ _ _ _ _ _ _ _ _ _ _ _ _ _ _ _ (s .0) (s .1 .0) (t .0) (t .1 .0) _ _ _ _ _ (c .before .before .before .before .before .before .before .before .before .before .before .before .before .u .given .1) (c .settle .ensures)
+    (adapt-settled _ _ _ _ _ _ _ _ _ _ _ _ _ _ _ _ _ _ _ _ _ (s .0) (s .1 .0) (t .0) (t .1 .0) _ _ _ _ _ (c .before .before .before .before .before .before .before .before .before .before .before .before .before .u .given .1) (c .settle .ensures), let p = c .before .before .before .before .before .before .before .before .before .before .before .before .before .before .before .pre .0 in settled-long _ _ _ _ _ _ _ _ _ _ _ (s .0 .long ∙ p .0) (s .1 .0 .long ∙ p .1 .0) (t .0 .long ∙ p .1 .1 .0) (t .1 .0 .long ∙ p .1 .1 .1) (c .settle .ensures))
 
 -- src/adapt.rt:139:1
 returns-3 : tie.Need-returns-3
 returns-3 c =
     let s = c .before .before .before .before .lanes-step .ensures in
     let t = c .before .lanes-step2 .ensures in
-    adapt-calm _ _ _ _ _ _ _ _ _ _ _ _ _ _ _ _ _ _ _ _ _ (s .0) (s .1 .0) (t .0) (t .1 .0) _ _ _ (c .before .before .before .before .before .before .before .before .u .given .1) (s .1 .1) (t .1 .1) (c .if1 .left)
+    (adapt-calm _ _ _ _ _ _ _ _ _ _ _ _ _ _ _ _ _ _ _ _ _ (s .0) (s .1 .0) (t .0) (t .1 .0) _ _ _ (c .before .before .before .before .before .before .before .before .u .given .1) (s .1 .1) (t .1 .1) (c .if1 .left), let p = c .before .before .before .before .before .before .before .before .before .before .pre .0 in (s .0 .long ∙ p .0, (s .1 .0 .long ∙ p .1 .0, (t .0 .long ∙ p .1 .1 .0, t .1 .0 .long ∙ p .1 .1 .1))))
 
 pub adapt-spec : {M : Type 1} → statement M
 adapt-spec =

@@ -38,7 +38,8 @@ divide-requires-2 c κs = search needs
 returns : tie.Need-returns
 returns c =
     let l = c .before .before .before .before .least .ensures in
-    sized _ _ _ _ _ _ _ _ (c .before .before .before .before .before .cma-left .ensures) (l .0) (l .1 .0) (c .before .before .divide .ensures) (c .divide2 .ensures)
+    let d = c .before .before .divide .ensures in
+    (sized _ _ _ _ _ _ _ _ (c .before .before .before .before .before .cma-left .ensures) (l .0) (l .1 .0) d (c .divide2 .ensures), c .divide2 .ensures .long ∙ d .long ∙ c .before .before .before .before .before .before .before .pre .0)
 
 pub sizes-spec : {M : Type 1} → statement M
 sizes-spec =

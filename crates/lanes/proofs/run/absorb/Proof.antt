@@ -33,7 +33,7 @@ feed-requires c κs = search needs
 
 -- src/run.rt:67:1
 returns : tie.Need-returns
-returns c = absorbed _ _ _ _ _ _ _ _ _ _ _ _ _ _ _ _ _ _ _ _ _ _ _ _ _ (c .before .before .before .before .before .before .before .before .before .before .before .pre .1 .0) (c .before .before .before .before .adapt .ensures) (c .feed .ensures .0) (c .feed .ensures .1 .0) (c .feed .ensures .1 .1)
+returns c = absorbed _ _ _ _ _ _ _ _ _ _ _ _ _ _ _ _ _ _ _ _ _ _ _ _ _ (c .before .before .before .before .before .before .before .before .before .before .before .pre .1 .0) (c .before .before .before .before .adapt .ensures .0) (c .feed .ensures .0) (c .feed .ensures .1 .0) (c .feed .ensures .1 .1)
 
 pub absorb-spec : {M : Type 1} → statement M
 absorb-spec = tie.close (tie.spec add-bt sub-bt adapt-requires add-feed feed-requires returns)

@@ -11,53 +11,53 @@ mul-a2 c = search needs
 mul-e2 : tie.Need-mul-e2
 mul-e2 c = search needs
 
-slice-relend-prefix-equalize : tie.Need-slice-relend-prefix-equalize
-slice-relend-prefix-equalize c = search needs
+slice-relend-prefix-by-path : tie.Need-slice-relend-prefix-by-path
+slice-relend-prefix-by-path c = search needs
 
-slice-aggregate-equalize : tie.Need-slice-aggregate-equalize
-slice-aggregate-equalize c = simp length-take (omega arith)
+slice-aggregate-by-path : tie.Need-slice-aggregate-by-path
+slice-aggregate-by-path c = simp length-take (omega arith)
 
-slice-relend-prefix-equalize-2 : tie.Need-slice-relend-prefix-equalize-2
-slice-relend-prefix-equalize-2 c = search needs
+slice-relend-prefix-by-path-2 : tie.Need-slice-relend-prefix-by-path-2
+slice-relend-prefix-by-path-2 c = search needs
 
-slice-aggregate-equalize-2 : tie.Need-slice-aggregate-equalize-2
-slice-aggregate-equalize-2 c = simp length-take (omega arith)
+slice-aggregate-by-path-2 : tie.Need-slice-aggregate-by-path-2
+slice-aggregate-by-path-2 c = simp length-take (omega arith)
 
-mul-equalize : tie.Need-mul-equalize
-mul-equalize c = search needs
+mul-by-path : tie.Need-mul-by-path
+mul-by-path c = search needs
 
-sub-equalize : tie.Need-sub-equalize
-sub-equalize c = search needs
+sub-by-path : tie.Need-sub-by-path
+sub-by-path c = search needs
 
-part-equalize-start : tie.Need-part-equalize-start
-part-equalize-start c = search needs
+part-by-path-start : tie.Need-part-by-path-start
+part-by-path-start c = search needs
 
-part-equalize-end : tie.Need-part-equalize-end
-part-equalize-end c = search needs
+part-by-path-end : tie.Need-part-by-path-end
+part-by-path-end c = search needs
 
-mul-equalize-2 : tie.Need-mul-equalize-2
-mul-equalize-2 c = search needs
+mul-by-path-2 : tie.Need-mul-by-path-2
+mul-by-path-2 c = search needs
 
-sub-equalize-2 : tie.Need-sub-equalize-2
-sub-equalize-2 c = search needs
+sub-by-path-2 : tie.Need-sub-by-path-2
+sub-by-path-2 c = search needs
 
-part-equalize-start-2 : tie.Need-part-equalize-start-2
-part-equalize-start-2 c = search needs
+part-by-path-start-2 : tie.Need-part-by-path-start-2
+part-by-path-start-2 c = search needs
 
-part-equalize-end-2 : tie.Need-part-equalize-end-2
-part-equalize-end-2 c = search needs
+part-by-path-end-2 : tie.Need-part-by-path-end-2
+part-by-path-end-2 c = search needs
 
-sub-equalize-3 : tie.Need-sub-equalize-3
-sub-equalize-3 c = search needs
+sub-by-path-3 : tie.Need-sub-by-path-3
+sub-by-path-3 c = search needs
 
-part-equalize-start-3 : tie.Need-part-equalize-start-3
-part-equalize-start-3 c = search needs
+part-by-path-start-3 : tie.Need-part-by-path-start-3
+part-by-path-start-3 c = search needs
 
-part-equalize-end-3 : tie.Need-part-equalize-end-3
-part-equalize-end-3 c = search needs
+part-by-path-end-3 : tie.Need-part-by-path-end-3
+part-by-path-end-3 c = search needs
 
-equalize-requires : tie.Need-equalize-requires
-equalize-requires c κs = search needs
+by-path-requires : tie.Need-by-path-requires
+by-path-requires c κs = search needs
 
 same-length : tie.Need-same-length
 same-length c = search needs
@@ -80,22 +80,22 @@ call-spec =
     (tie.spec
     mul-a2
     mul-e2
-    slice-relend-prefix-equalize
-    slice-aggregate-equalize
-    slice-relend-prefix-equalize-2
-    slice-aggregate-equalize-2
-    mul-equalize
-    sub-equalize
-    part-equalize-start
-    part-equalize-end
-    mul-equalize-2
-    sub-equalize-2
-    part-equalize-start-2
-    part-equalize-end-2
-    sub-equalize-3
-    part-equalize-start-3
-    part-equalize-end-3
-    equalize-requires
+    slice-relend-prefix-by-path
+    slice-aggregate-by-path
+    slice-relend-prefix-by-path-2
+    slice-aggregate-by-path-2
+    mul-by-path
+    sub-by-path
+    part-by-path-start
+    part-by-path-end
+    mul-by-path-2
+    sub-by-path-2
+    part-by-path-start-2
+    part-by-path-end-2
+    sub-by-path-3
+    part-by-path-start-3
+    part-by-path-end-3
+    by-path-requires
     same-length
     same-length-2
     same-length-3

@@ -1,0 +1,91 @@
+-- The loop over the runs of a call. Assumes nothing.
+use Prim.Native.Nat.{ℕ, _*_, _-_, _≤_}
+use mathlib.Core.Path.{_≡_, refl, _∙_}
+use mathlib.Core.Bool.{true}
+use mathlib.Core.List.{List}
+use native.Mathlib.Omega.{arith}
+use lib.ListN.{length}
+use lib.Ieee.{Float}
+use Rattle.definition.specs.declared.EqualizeState.{EqualizeState}
+use Rattle.definition.specs.Packed.{equalizer}
+use Rattle.definition.specs.Sample.{Equalizer}
+use Rattle.definition.specs.Rules.{acceptedDef, ruleR4}
+use Rattle.lanes.specs.Arrays.{Arrays, Long}
+use Rattle.lanes.specs.Holds.{Holds}
+use Rattle.runs.specs.declared.run.Shape.{Shape}
+use Rattle.runs.specs.Taken.{Lanes, Setting}
+use Rattle.runs.specs.Passing.{Room, Blocks, Calls}
+use Rattle.runs.proofs.Folding.{Running, running-none, running-block, running-all}
+
+-- after i samples from q₀, in whole runs: weights and window, how far the block has come, and what the arrays hold
+pub record Rolled (n m : ℕ) (q₀ : Equalizer) (xs : List Float) (a : Arrays) (ys : List Float) (ms : List ℕ) (s : EqualizeState) (i : ℕ) : Type 0 where
+  pub weights : List Float
+  pub window : List Float
+  pub running : Running q₀ xs (equalizer s weights window) ys ms i
+  pub holds : Holds n m 64 a (equalizer s weights window)
+
+pub record Rolling (s₀ : EqualizeState) (g : Shape) (n : ℕ) (wl vl : List Float) (a₀ : Arrays) (xs ys₀ : List Float) (ms₀ : List ℕ) (a : Arrays) (ys : List Float) (ms : List ℕ) (sq ps ss : List Float) (s : EqualizeState) (i : ℕ) : Type 0 where
+  pub lanes : Lanes (a .wr) (a .wi) (a .vr) (a .vi)
+  pub long : Long a
+  pub room : Room sq ps ss
+  pub counts : ruleR4 s ≡ true
+  pub here : i ≤ length ms
+  pub input : length xs ≡ 2 * length ms
+  pub output : length ys ≡ 2 * length ms
+  pub long-ys : length ys ≡ length ys₀
+  pub long-ms : length ms ≡ length ms₀
+  pub rolled : (w h : List Float) → acceptedDef (equalizer s₀ w h) ≡ true → Setting g n wl vl → Holds n (g .m) 64 a₀ (equalizer s₀ w h) → Rolled n (g .m) (equalizer s₀ w h) xs a ys ms s i
+
+pub rolling-none : (s : EqualizeState) (g : Shape) (n : ℕ) (wl vl : List Float) (a : Arrays) (xs ys : List Float) (ms : List ℕ) (sq ps ss : List Float) → Lanes (a .wr) (a .wi) (a .vr) (a .vi) → Long a → Room sq ps ss
+    → ruleR4 s ≡ true → length xs ≡ 2 * length ms → length ys ≡ 2 * length ms → Rolling s g n wl vl a xs ys ms a ys ms sq ps ss s 0
+rolling-none s g n wl vl a xs ys ms sq ps ss l k r c i o = record {
+  lanes = l;
+  long = k;
+  room = r;
+  counts = c;
+  here = omega arith;
+  input = i;
+  output = o;
+  long-ys = refl;
+  long-ms = refl;
+  rolled = λ w h ok set hold. record { weights = w; window = h; running = running-none (equalizer s w h) xs ys ms ok; holds = hold };
+}
+
+module _ (s₀ : EqualizeState) (g : Shape) (n : ℕ) (wl vl : List Float) (a₀ : Arrays) (xs ys₀ : List Float) (ms₀ : List ℕ) (a : Arrays) (ys : List Float) (ms : List ℕ) (sq ps ss : List Float) (s : EqualizeState) (i : ℕ)
+    (o : Rolling s₀ g n wl vl a₀ xs ys₀ ms₀ a ys ms sq ps ss s i) where
+  pub rolling-more : (e : ℕ) (a′ : Arrays) (ys′ : List Float) (ms′ : List ℕ) (sq′ ps′ ss′ : List Float) (r : EqualizeState) → i ≤ e → e ≤ length ms → length ys′ ≡ length ys → length ms′ ≡ length ms
+      → Blocks s g n wl vl a xs ys ms i e a′ ys′ ms′ r → Room sq′ ps′ ss′ → Rolling s₀ g n wl vl a₀ xs ys₀ ms₀ a′ ys′ ms′ sq′ ps′ ss′ r e
+  rolling-more e a′ ys′ ms′ sq′ ps′ ss′ r l k ly lm b room = record {
+    lanes = b .lanes;
+    long = b .long;
+    room = room;
+    counts = b .counts;
+    here = omega arith;
+    input = omega (arith, lm, o .input);
+    output = omega (arith, lm, ly, o .output);
+    long-ys = ly ∙ o .long-ys;
+    long-ms = lm ∙ o .long-ms;
+    rolled = λ w h ok set hold.
+        let z = o .rolled w h ok set hold in
+        let v = b .blocked (z .weights) (z .window) (z .running .accepted) set (z .holds) in
+        let q = equalizer s (z .weights) (z .window) in
+        let q′ = equalizer r (v .passed .weights) (v .passed .window) in
+        record {
+          weights = v .passed .weights;
+          window = v .passed .window;
+          running = rw (v .out, v .marks) (running-block (equalizer s₀ w h) xs q ys ms i e (z .running) (o .input) (o .output) l k q′ (v .part) (v .part-marks) (v .passed .ran));
+          holds = v .passed .holds;
+        };
+  }
+
+  pub rolling-all : length ms ≤ i → Calls s₀ g n wl vl a₀ xs a ys ms s
+  rolling-all l = record {
+    passed = λ w h ok set hold.
+        let z = o .rolled w h ok set hold in
+        record {
+          weights = z .weights;
+          window = z .window;
+          ran = running-all (equalizer s₀ w h) xs (equalizer s (z .weights) (z .window)) ys ms i (z .running) (o .input) (o .output) l;
+          holds = z .holds;
+        };
+  }

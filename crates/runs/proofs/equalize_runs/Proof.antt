@@ -1,0 +1,48 @@
+use borrow.Author.Needs.{needs}
+use Rattle.runs.proofs.Calling.{feedback-fits}
+use native.Mathlib.Omega.{arith}
+use Rattle.runs.proofs.equalize_runs.Statement.{statement}
+use Rattle.runs.proofs.equalize_runs.Tie as tie
+use Rattle.runs.proofs.equalize_runs.Reads as reads
+use Rattle.runs.proofs.equalize_runs.Lts as lts
+use Rattle.runs.proofs.block.equalize.Reads as equalize-reads
+
+-- src/lib.rt:31:13
+sub-n : tie.Need-sub-n
+sub-n c = omega (arith, feedback-fits _ _ _ _ _ _ (c .before .before .before .before .before .before .pre .1))
+
+-- src/lib.rt:32:5
+equalize-requires : tie.Need-equalize-requires
+equalize-requires c κs = search needs
+
+-- src/lib.rt:15:1
+same-length : tie.Need-same-length
+same-length c = search needs
+
+-- src/lib.rt:15:1
+same-length-2 : tie.Need-same-length-2
+same-length-2 c = search needs
+
+-- src/lib.rt:15:1
+same-length-3 : tie.Need-same-length-3
+same-length-3 c = search needs
+
+-- src/lib.rt:15:1
+same-length-4 : tie.Need-same-length-4
+same-length-4 c = search needs
+
+-- src/lib.rt:15:1
+returns : tie.Need-returns
+returns c = search needs
+
+pub equalize-runs-spec : {M : Type 1} → statement M
+equalize-runs-spec =
+    tie.close
+    (tie.spec
+    sub-n
+    equalize-requires
+    same-length
+    same-length-2
+    same-length-3
+    same-length-4
+    returns)

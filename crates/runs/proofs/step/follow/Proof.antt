@@ -1,0 +1,24 @@
+use borrow.Author.Needs.{needs}
+use Rattle.runs.specs.Step.{stepOf}
+use Rattle.runs.proofs.step.follow.Statement.{statement}
+use Rattle.runs.proofs.step.follow.Tie as tie
+use Rattle.runs.proofs.step.follow.Reads as reads
+use Rattle.runs.proofs.step.follow.Lts as lts
+use Rattle.mix.proofs.cos_sin.Reads as cos-sin-reads
+use Rattle.runs.proofs.step.step.Reads as step-reads
+
+-- src/step.rt:170:9
+cos-sin-requires : tie.Need-cos-sin-requires
+cos-sin-requires c κs = search needs
+
+-- src/step.rt:171:5
+step-requires : tie.Need-step-requires
+step-requires c κs = search needs
+
+-- src/step.rt:160:1
+returns : tie.Need-returns
+unfolding stepOf
+returns c = cc
+
+pub follow-spec : {M : Type 1} → statement M
+follow-spec = tie.close (tie.spec cos-sin-requires step-requires returns)

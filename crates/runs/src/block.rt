@@ -1,0 +1,407 @@
+// Blocks of samples in runs of 64: the caller's slices into the arrays, run after run, and back.
+use crate::run;
+use crate::run::Shape;
+use definition::EqualizeState;
+use lanes::load::History;
+use lanes::load::Weights;
+ghost use mathlib.Core.Path.{_≡_};
+ghost use mathlib.Core.Bool.{true};
+ghost use Prim.Native.Nat.{_+_, _-_, _*_, _/_, _%_, _<_, _≤_};
+ghost use lib.ListN.{length};
+ghost use Rattle.tables.specs.Table.{cosBits};
+ghost use Rattle.definition.specs.Slices.{samplesOf};
+ghost use Rattle.definition.specs.Packed.{equalizer, Ran};
+ghost use Rattle.definition.specs.Rules.{ruleR4};
+ghost use Rattle.definition.specs.Run.{runDef};
+ghost use Rattle.lanes.specs.Arrays.{arrays, Long};
+ghost use Rattle.runs.specs.Taken.{Fits, Lanes, Formed};
+ghost use Rattle.runs.specs.Passing.{Room, Begins, Ends, Blocks, Calls, Empty, Loads, Stores, Asked};
+
+// What is made ahead of a run, one number for each sample.
+pub(crate) struct Ahead {}
+
+impl Ahead {
+    pub(crate) const ZERO: [f32; 64] = [0.0; 64];
+}
+
+// The samples of a run into the window, and what depends on them alone.
+fn begin(
+    s: EqualizeState,
+    xr: &mut [f32; 144],
+    xi: &mut [f32; 144],
+    q: &mut [f32; 144],
+    power: &mut [f32; 64],
+    steps: &mut [f32; 64],
+    input: &[f32],
+    n: usize,
+)
+    requires { ⌜ (length (now xr) ≡ 144) × (length (now xi) ≡ 144) ⌝ }
+    requires { ⌜ Room (now q) (now power) (now steps) ⌝ }
+    requires { ⌜ (length (now input) ≤ 128) × (n ≤ 63) ⌝ }
+    ensures { λ _. ⌜ Begins s n (now (input .entry)) (now (xr .entry)) (now (xi .entry)) (now (xr .exit)) (now (xi .exit)) (now (power .exit)) (now (steps .exit)) ⌝ }
+    ensures { λ _. ⌜ Room (now (q .exit)) (now (power .exit)) (now (steps .exit)) ⌝ }
+{
+    let first = 64 - input.len() / 2;
+    let from = first / 16 * 16;
+    lanes::prepare::enter(xr, xi, input);
+    lanes::prepare::squares(q, xr, xi, from, 64 + n);
+    lanes::prepare::powers(power, q, from, n);
+    lanes::prepare::sizes(steps, power, s, from);
+}
+
+// The windows of the last sample to where the next run looks for them.
+fn end(
+    xr: &mut [f32; 144],
+    xi: &mut [f32; 144],
+    dr: &mut [f32; 144],
+    di: &mut [f32; 144],
+    dq: &mut [f32; 144],
+    len: usize,
+    n: usize,
+    m: usize,
+)
+    requires { ⌜ (length (now xr) ≡ 144) × ((length (now xi) ≡ 144) × ((length (now dr) ≡ 144) × ((length (now di) ≡ 144) × (length (now dq) ≡ 144)))) ⌝ }
+    requires { ⌜ (len ≤ 64) × ((n ≤ 63) × (m ≤ 63)) ⌝ }
+    ensures { λ _. ⌜ Ends n m (64 - len) (now (xr .entry)) (now (xi .entry)) (now (dr .entry)) (now (di .entry)) (now (dq .entry))
+        (now (xr .exit)) (now (xi .exit)) (now (dr .exit)) (now (di .exit)) (now (dq .exit)) ⌝ }
+{
+    let first = 64 - len;
+    lanes::load::moved(xr, first, 64, n);
+    lanes::load::moved(xi, first, 64, n);
+    lanes::load::moved(dr, first + 8, 72, m);
+    lanes::load::moved(di, first + 8, 72, m);
+    lanes::load::moved(dq, first + 8, 72, m);
+}
+
+// One run: the samples i .. e, at most 64.
+fn block(
+    state: EqualizeState,
+    t: &[u32; 4097],
+    g: Shape,
+    n: usize,
+    wr: &mut [f32; 72],
+    wi: &mut [f32; 72],
+    wl: &[f32; 72],
+    xr: &mut [f32; 144],
+    xi: &mut [f32; 144],
+    vr: &mut [f32; 72],
+    vi: &mut [f32; 72],
+    vl: &[f32; 72],
+    dr: &mut [f32; 144],
+    di: &mut [f32; 144],
+    dq: &mut [f32; 144],
+    q: &mut [f32; 144],
+    power: &mut [f32; 64],
+    steps: &mut [f32; 64],
+    input: &[f32],
+    output: &mut [f32],
+    marks: &mut [u8],
+    i: usize,
+    e: usize,
+) -> EqualizeState
+    requires { ⌜ now t ≡ cosBits ⌝ }
+    requires { ⌜ (length (now input) ≡ 2 * length (now marks)) × (length (now output) ≡ 2 * length (now marks)) ⌝ }
+    requires { ⌜ (n ≤ 63) × Fits g ⌝ }
+    requires { ⌜ (i ≤ e) × ((e ≤ i + 64) × (e ≤ length (now marks))) ⌝ }
+    requires { ⌜ Lanes (now wr) (now wi) (now vr) (now vi) ⌝ }
+    requires { ⌜ Long (arrays (now wr) (now wi) (now vr) (now vi) (now xr) (now xi) (now dr) (now di) (now dq)) ⌝ }
+    requires { ⌜ Room (now q) (now power) (now steps) ⌝ }
+    requires { ⌜ ruleR4 state ≡ true ⌝ }
+    ensures { λ r. ⌜ Blocks state g n (now (wl .entry)) (now (vl .entry))
+        (arrays (now (wr .entry)) (now (wi .entry)) (now (vr .entry)) (now (vi .entry)) (now (xr .entry)) (now (xi .entry)) (now (dr .entry)) (now (di .entry)) (now (dq .entry)))
+        (now (input .entry)) (now (output .entry)) (now (marks .entry)) i e
+        (arrays (now (wr .exit)) (now (wi .exit)) (now (vr .exit)) (now (vi .exit)) (now (xr .exit)) (now (xi .exit)) (now (dr .exit)) (now (di .exit)) (now (dq .exit)))
+        (now (output .exit)) (now (marks .exit)) r ⌝ }
+    ensures { λ _. ⌜ Room (now (q .exit)) (now (power .exit)) (now (steps .exit)) ⌝ }
+{
+    let a = 2 * i;
+    let b = 2 * e;
+    begin(state, xr, xi, q, power, steps, &input[a..b], n);
+    let r = run::run(
+        state,
+        t,
+        g,
+        wr,
+        wi,
+        wl,
+        xr,
+        xi,
+        vr,
+        vi,
+        vl,
+        dr,
+        di,
+        dq,
+        power,
+        steps,
+        &input[a..b],
+        &mut output[a..b],
+        &mut marks[i..e],
+    );
+    end(xr, xi, dr, di, dq, e - i, n, g.m);
+    r
+}
+
+// The smaller, of two numbers that are not 0.
+fn least(a: usize, b: usize) -> usize
+    requires { ⌜ (0 < a) × (0 < b) ⌝ }
+    ensures { λ r. ⌜ (r ≤ a) × ((r ≤ b) × (0 < r)) ⌝ }
+{
+    if a < b {
+        return a;
+    }
+    b
+}
+
+// All runs of a call.
+fn runs(
+    state: EqualizeState,
+    t: &[u32; 4097],
+    g: Shape,
+    n: usize,
+    wr: &mut [f32; 72],
+    wi: &mut [f32; 72],
+    wl: &[f32; 72],
+    xr: &mut [f32; 144],
+    xi: &mut [f32; 144],
+    vr: &mut [f32; 72],
+    vi: &mut [f32; 72],
+    vl: &[f32; 72],
+    dr: &mut [f32; 144],
+    di: &mut [f32; 144],
+    dq: &mut [f32; 144],
+    input: &[f32],
+    output: &mut [f32],
+    marks: &mut [u8],
+) -> EqualizeState
+    requires { ⌜ now t ≡ cosBits ⌝ }
+    requires { ⌜ (length (now input) ≡ 2 * length (now marks)) × (length (now output) ≡ 2 * length (now marks)) ⌝ }
+    requires { ⌜ (n ≤ 63) × Fits g ⌝ }
+    requires { ⌜ Lanes (now wr) (now wi) (now vr) (now vi) ⌝ }
+    requires { ⌜ Long (arrays (now wr) (now wi) (now vr) (now vi) (now xr) (now xi) (now dr) (now di) (now dq)) ⌝ }
+    requires { ⌜ ruleR4 state ≡ true ⌝ }
+    ensures { λ r. ⌜ Calls state g n (now (wl .entry)) (now (vl .entry))
+        (arrays (now (wr .entry)) (now (wi .entry)) (now (vr .entry)) (now (vi .entry)) (now (xr .entry)) (now (xi .entry)) (now (dr .entry)) (now (di .entry)) (now (dq .entry)))
+        (now (input .entry))
+        (arrays (now (wr .exit)) (now (wi .exit)) (now (vr .exit)) (now (vi .exit)) (now (xr .exit)) (now (xi .exit)) (now (dr .exit)) (now (di .exit)) (now (dq .exit)))
+        (now (output .exit)) (now (marks .exit)) r ⌝ }
+{
+    let mut q = History::ZERO;
+    let mut power = Ahead::ZERO;
+    let mut steps = Ahead::ZERO;
+    let mut s = state;
+    let mut i = 0usize;
+    while i < marks.len() {
+        let len = least(marks.len() - i, 64);
+        let e = i + len;
+        s = block(
+            s,
+            t,
+            g,
+            n,
+            wr,
+            wi,
+            wl,
+            xr,
+            xi,
+            vr,
+            vi,
+            vl,
+            dr,
+            di,
+            dq,
+            &mut q,
+            &mut power,
+            &mut steps,
+            input,
+            output,
+            marks,
+            i,
+            e,
+        );
+        i = e;
+    }
+    s
+}
+
+fn up8(n: usize) -> usize
+    requires { ⌜ n ≤ 70 ⌝ }
+    ensures { λ r. ⌜ r ≡ (n + 7) / 8 * 8 ⌝ }
+{
+    (n + 7) / 8 * 8
+}
+
+fn up4(n: usize) -> usize
+    requires { ⌜ n ≤ 70 ⌝ }
+    ensures { λ r. ⌜ r ≡ (n + 3) / 4 * 4 ⌝ }
+{
+    (n + 3) / 4 * 4
+}
+
+// The shape of n forward and m feedback taps: no feedback lanes where m is 0.
+fn shape_of(n: usize, m: usize) -> Shape
+    requires { ⌜ (3 ≤ n) × ((n ≤ 63) × (m ≤ 63)) ⌝ }
+    ensures { λ r. ⌜ Formed n m r ⌝ }
+{
+    let front = n % 8;
+    let lanes = up8(n);
+    let quads = up4(n);
+    if m == 0 {
+        return Shape {
+            lanes,
+            more: 0,
+            quads,
+            mquads: 0,
+            front,
+            m,
+            centre: n / 2,
+        };
+    }
+    let more = up8(front + m);
+    let mquads = up4(front + m);
+    Shape {
+        lanes,
+        more,
+        quads,
+        mquads,
+        front,
+        m,
+        centre: n / 2,
+    }
+}
+
+// The caller's slices into empty arrays.
+fn load(
+    weights: &[f32],
+    window: &[f32],
+    n: usize,
+    m: usize,
+    wr: &mut [f32; 72],
+    wi: &mut [f32; 72],
+    xr: &mut [f32; 144],
+    xi: &mut [f32; 144],
+    vr: &mut [f32; 72],
+    vi: &mut [f32; 72],
+    dr: &mut [f32; 144],
+    di: &mut [f32; 144],
+    dq: &mut [f32; 144],
+)
+    requires { ⌜ (length (now weights) ≡ 2 * (n + m)) × (length (now window) ≡ 2 * (n + m)) ⌝ }
+    requires { ⌜ (n ≤ 63) × (m ≤ 63) ⌝ }
+    requires { ⌜ Empty (arrays (now wr) (now wi) (now vr) (now vi) (now xr) (now xi) (now dr) (now di) (now dq)) ⌝ }
+    ensures { λ _. ⌜ Loads n m (now (weights .entry)) (now (window .entry))
+        (arrays (now (wr .exit)) (now (wi .exit)) (now (vr .exit)) (now (vi .exit)) (now (xr .exit)) (now (xi .exit)) (now (dr .exit)) (now (di .exit)) (now (dq .exit))) ⌝ }
+{
+    lanes::load::split(wr, wi, 0, weights, 0, n);
+    lanes::load::split(vr, vi, n % 8, weights, n, m);
+    lanes::load::split_long(xr, xi, 64, window, 0, n);
+    lanes::load::split_long(dr, di, 72, window, n, m);
+    lanes::prepare::squares(dq, dr, di, 72, 72 + m);
+}
+
+// And back.
+fn store(
+    weights: &mut [f32],
+    window: &mut [f32],
+    n: usize,
+    m: usize,
+    wr: &[f32; 72],
+    wi: &[f32; 72],
+    xr: &[f32; 144],
+    xi: &[f32; 144],
+    vr: &[f32; 72],
+    vi: &[f32; 72],
+    dr: &[f32; 144],
+    di: &[f32; 144],
+)
+    requires { ⌜ (length (now weights) ≡ 2 * (n + m)) × (length (now window) ≡ 2 * (n + m)) ⌝ }
+    requires { ⌜ (n ≤ 63) × (m ≤ 63) ⌝ }
+    ensures { λ _. ⌜ Stores n m (now (wr .entry)) (now (wi .entry)) (now (vr .entry)) (now (vi .entry)) (now (xr .entry)) (now (xi .entry)) (now (dr .entry)) (now (di .entry))
+        (now (weights .entry)) (now (window .entry)) (now (weights .exit)) (now (window .exit)) ⌝ }
+{
+    lanes::load::joined(weights, wr, wi, 0, 0, n);
+    lanes::load::joined(weights, vr, vi, n % 8, n, m);
+    lanes::load::joined_long(window, xr, xi, 64, 0, n);
+    lanes::load::joined_long(window, dr, di, 72, n, m);
+}
+
+// A block by n forward and m feedback taps: arrays, all runs, and back.
+pub(crate) fn equalize(
+    t: &[u32; 4097],
+    state: EqualizeState,
+    weights: &mut [f32],
+    window: &mut [f32],
+    input: &[f32],
+    output: &mut [f32],
+    marks: &mut [u8],
+    n: usize,
+    m: usize,
+) -> EqualizeState
+    requires { ⌜ now t ≡ cosBits ⌝ }
+    requires { ⌜ Asked state (now weights) (now window) (now input) (now output) (now marks) n m ⌝ }
+    ensures { λ r. ⌜ Ran (runDef (equalizer state (now (weights .entry)) (now (window .entry))) (samplesOf (now (input .entry))))
+        (equalizer r (now (weights .exit)) (now (window .exit))) (now (output .exit)) (now (marks .exit)) ⌝ }
+{
+    let g = shape_of(n, m);
+    let wl = lanes::load::limits(0, n);
+    let vl = lanes::load::limits(n % 8, m);
+    let mut wr = Weights::ZERO;
+    let mut wi = Weights::ZERO;
+    let mut vr = Weights::ZERO;
+    let mut vi = Weights::ZERO;
+    let mut xr = History::ZERO;
+    let mut xi = History::ZERO;
+    let mut dr = History::ZERO;
+    let mut di = History::ZERO;
+    let mut dq = History::ZERO;
+    load(
+        weights,
+        window,
+        n,
+        m,
+        &mut wr,
+        &mut wi,
+        &mut xr,
+        &mut xi,
+        &mut vr,
+        &mut vi,
+        &mut dr,
+        &mut di,
+        &mut dq,
+    );
+    let s = runs(
+        state,
+        t,
+        g,
+        n,
+        &mut wr,
+        &mut wi,
+        &wl,
+        &mut xr,
+        &mut xi,
+        &mut vr,
+        &mut vi,
+        &vl,
+        &mut dr,
+        &mut di,
+        &mut dq,
+        input,
+        output,
+        marks,
+    );
+    store(
+        weights,
+        window,
+        n,
+        m,
+        &wr,
+        &wi,
+        &xr,
+        &xi,
+        &vr,
+        &vi,
+        &dr,
+        &di,
+    );
+    s
+}

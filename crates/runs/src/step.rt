@@ -1,0 +1,198 @@
+// One sample after its filter sum: tracker, decision, error, update. Where ways meet, the changed numbers are handed back and not the record.
+use definition::C32;
+use definition::CosSin;
+use definition::EqMode;
+use definition::EqualizeState;
+use definition::Update;
+ghost use mathlib.Core.Path.{_≡_};
+ghost use mathlib.Core.Bool.{true, cond};
+ghost use Prim.Native.Nat.{_+_, _%_, _^_};
+ghost use Rattle.tables.specs.Table.{cosBits};
+ghost use Rattle.definition.specs.Floats.{norm, one32, zeroC, scaledC, clipC};
+ghost use Rattle.definition.specs.Phase.{phaseStep};
+ghost use Rattle.definition.specs.Sample.{mseAfter, godardError, withRunning, phaseError, advance as advanceDef};
+ghost use Rattle.definition.specs.Rules.{ruleR4};
+ghost use Rattle.runs.specs.Step.{trackOf, aimed, updateIf, stepWith, stepOf};
+
+// The running numbers that a heard sample changes.
+pub(crate) struct Track {
+    pub(crate) mse: f32,
+    pub(crate) freq: f32,
+    pub(crate) phase: u32,
+}
+
+// What steps 4 to 7 give.
+pub(crate) struct Stepped {
+    pub(crate) track: Track,
+    pub(crate) z: C32,
+    pub(crate) fed: C32,
+    pub(crate) update: Update,
+}
+
+// The error of the mode, and the sample to feed back.
+pub(crate) struct Aim {
+    pub(crate) e: C32,
+    pub(crate) fed: C32,
+}
+
+// The mean error after an error e.
+fn mean(mse: f32, e: C32) -> f32
+    ensures { λ r. ⌜ r ≡ mseAfter mse (norm e) ⌝ }
+{
+    let p = e.re * e.re + e.im * e.im;
+    if numeric::is_finite(p) {
+        return numeric::flush_denormal(mse + 0.01 * (p - mse));
+    }
+    mse
+}
+
+// The frequency f, and the phase on by the step of v.
+fn moved(phase: u32, mse: f32, f: f32, v: f32) -> Track
+    ensures { λ r. ⌜ r ≡ record { mse = mse; freq = f; phase = (phase + phaseStep v) % 2 ^ 32 } ⌝ }
+{
+    Track {
+        mse,
+        freq: f,
+        phase: std::num::wrapping_add_u32(phase, costas::phase_step_f32(v)),
+    }
+}
+
+// The running numbers after the symbol z with the decision d, e apart. Two whole ways: a detector value that is not finite counts as 0.
+fn tracked(s: EqualizeState, z: C32, d: C32, e: C32) -> Track
+    ensures { λ r. ⌜ r ≡ trackOf s (mseAfter (s .mse) (norm e)) (phaseError z d) ⌝ }
+{
+    let p = z.im * d.re - z.re * d.im;
+    let mse = mean(s.mse, e);
+    if numeric::is_finite(p) {
+        let f = costas::integrate(s.freq + s.ki * p, EqualizeState::PHASE_MAX_FREQ);
+        return moved(s.phase, mse, f, f + s.kp * p);
+    }
+    let f = costas::integrate(s.freq + s.ki * 0.0, EqualizeState::PHASE_MAX_FREQ);
+    moved(s.phase, mse, f, f + s.kp * 0.0)
+}
+
+// The record with the running numbers t.
+pub(crate) fn with_track(s: EqualizeState, t: Track) -> EqualizeState
+    ensures { λ r. ⌜ r ≡ withRunning s (s .mode) (s .count) (t .mse) (t .phase) (t .freq) ⌝ }
+{
+    EqualizeState {
+        mse: t.mse,
+        phase: t.phase,
+        freq: t.freq,
+        ..s
+    }
+}
+
+// Godard's constant modulus error, clipped.
+fn modulus(y: C32, radius: f32) -> C32
+    ensures { λ r. ⌜ r ≡ clipC (godardError y radius) one32 ⌝ }
+{
+    let f = (y.re * y.re + y.im * y.im) - radius;
+    C32 {
+        re: numeric::clip(y.re * f, 1.0),
+        im: numeric::clip(y.im * f, 1.0),
+    }
+}
+
+// The error and the sample to feed back, by the mode.
+fn aim_of(s: EqualizeState, t: CosSin, y: C32, d: C32, e: C32) -> Aim
+    ensures { λ r. ⌜ r ≡ aimed (s .mode) (s .params .constellation) t y d e ⌝ }
+{
+    let mode = s.mode;
+    let p = s.params;
+    let k = p.constellation;
+    match mode {
+        EqMode::Cma => Aim {
+            e: modulus(y, constellation::cma_r2(k)),
+            fed: C32::ZERO,
+        },
+        EqMode::Decision => Aim {
+            e: costas::rotate(e, t),
+            fed: costas::rotate(d, t),
+        },
+    }
+}
+
+// The update by the step size m and the error e, or none.
+fn update_of(live: bool, e: C32, m: f32) -> Update
+    ensures { λ r. ⌜ r ≡ updateIf live (scaledC m e) ⌝ }
+{
+    let re = m * e.re;
+    let im = m * e.im;
+    if live & numeric::is_finite(re) & numeric::is_finite(im) {
+        return Update::Step(re, im);
+    }
+    Update::Hold
+}
+
+fn fed_if(live: bool, fed: C32) -> C32
+    ensures { λ r. ⌜ r ≡ cond live fed zeroC ⌝ }
+{
+    if live {
+        return fed;
+    }
+    C32::ZERO
+}
+
+// Steps 4 to 7 with c and s, by the sum y, the forward power and the step size m.
+fn step(s: EqualizeState, t: CosSin, y: C32, forward: f32, m: f32) -> Stepped
+    ensures { λ r. ⌜ r ≡ stepWith s t y forward m ⌝ }
+{
+    let p = s.params;
+    let k = p.constellation;
+    let z = costas::derotate(y, t);
+    let d = constellation::decide(k, z);
+    let e = C32 {
+        re: z.re - d.re,
+        im: z.im - d.im,
+    };
+    let a = aim_of(s, t, y, d, e);
+    let live = forward != 0.0;
+    let update = update_of(live, a.e, m);
+    let fed = fed_if(live, a.fed);
+    let track = tracked(s, z, d, e);
+    Stepped {
+        track,
+        z,
+        fed,
+        update,
+    }
+}
+
+// Steps 4 to 7.
+pub(crate) fn follow(s: EqualizeState, t: &[u32; 4097], y: C32, forward: f32, size: f32) -> Stepped
+    requires { ⌜ now t ≡ cosBits ⌝ }
+    ensures { λ r. ⌜ r ≡ stepOf s y forward size ⌝ }
+{
+    let turn = mix::cos_sin(t, s.phase);
+    step(s, turn, y, forward, size)
+}
+
+// The mode switch after a sample.
+pub(crate) fn advance(s: EqualizeState) -> EqualizeState
+    requires { ⌜ ruleR4 s ≡ true ⌝ }
+    ensures { λ r. ⌜ r ≡ advanceDef s ⌝ }
+{
+    let mode = s.mode;
+    let params = s.params;
+    let total = params.cma_symbols;
+    match mode {
+        EqMode::Decision => s,
+        EqMode::Cma => {
+            if total == 4294967295 {
+                return s;
+            }
+            let count = s.count + 1;
+            if count < total {
+                let mut t = s;
+                t.count = count;
+                return t;
+            }
+            EqualizeState {
+                mode: EqMode::Decision,
+                count,
+                ..s
+            }
+        }
+    }
+}
