@@ -34,7 +34,8 @@ pub record Call : Type 0 where
 abbrev pub callDef : Equalizer → Call → Answer
 callDef q c = equalizeDef q (c .input) (c .output) (c .marks)
 
--- What the function of each path promises of its answer, and of all that it was handed: the same of all three.
+-- What the function of each path promises of its answer, and of all that it was handed: `reference::equalize` the plain path, `equalize` the quick
+-- path and the joint path. The same of all three.
 abbrev pub Promised : Path → Equalizer → Call → Answer → Type 0
 Promised plain q c a = a ≡ callDef q c
 Promised quick q c a = a ≡ callDef q c
