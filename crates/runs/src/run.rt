@@ -1,4 +1,4 @@
-// The samples of a run on the arrays.
+// The samples of a run on the arrays: w the forward weights, x their window, v and d the feedback ones; r real, i imaginary, l limits, q squares.
 use crate::step;
 use crate::step::Track;
 use definition::C32;
