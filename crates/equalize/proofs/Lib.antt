@@ -1,7 +1,2 @@
--- Laws that belong to no one function: one for each exit, and one record for each loop.
-pub mod Bits
-pub mod Exits
-pub mod Weights
-pub mod Hearing
-pub mod Folding
-pub mod Checking
+-- The calls: one law for each exit.
+pub mod Calls

@@ -8,10 +8,6 @@ use definition::Fresh;
 use definition::Outcome;
 
 pub mod reference;
-mod rules;
-mod slices;
-mod step;
-mod verdict;
 
 ghost use mathlib.Core.Path.{_≡_};
 ghost use Prim.Native.Nat.{_*_, _/_, _≤_};
@@ -26,8 +22,8 @@ fn start_over(w: &mut [f32], h: &mut [f32], n: usize, f: usize)
     requires { ⌜ (length (now w) ≡ 2 * n) × ((length (now h) ≡ 2 * n) × ((1 ≤ f) × (f ≤ n))) ⌝ }
     ensures { λ _. ⌜ (now (w .exit) ≡ startWeights n (f / 2)) × (now (h .exit) ≡ zeros (2 * n)) ⌝ }
 {
-    slices::start_weights(w, n, f);
-    slices::clear(h);
+    record::slices::start_weights(w, n, f);
+    record::slices::clear(h);
 }
 
 // The record at the start, with the gains of its bandwidth.
@@ -42,12 +38,12 @@ fn fresh_state(params: EqParams) -> EqualizeState
 pub fn new(weights: &mut [f32], window: &mut [f32], params: EqParams) -> Fresh
     ensures { λ r. ⌜ made r (now (weights .exit)) (now (window .exit)) ≡ newDef params (now (weights .entry)) (now (window .entry)) ⌝ }
 {
-    let v = verdict::new_verdict(params, weights.len(), window.len());
+    let v = record::verdict::new_verdict(params, weights.len(), window.len());
     match v {
         Outcome::Refused(e) => Fresh::NotMade(e),
         Outcome::Served => {
             let n = weights.len() / 2;
-            let f = rules::forward(n, params.feedback_taps);
+            let f = record::rules::forward(n, params.feedback_taps);
             start_over(weights, window, n, f);
             Fresh::Made(fresh_state(params))
         }
@@ -58,13 +54,13 @@ pub fn new(weights: &mut [f32], window: &mut [f32], params: EqParams) -> Fresh
 pub fn reset(state: EqualizeState, weights: &mut [f32], window: &mut [f32]) -> Equalized
     ensures { λ r. ⌜ resetTo r (now (weights .exit)) (now (window .exit)) ≡ resetDef (equalizer state (now (weights .entry)) (now (window .entry))) ⌝ }
 {
-    let v = verdict::reset_verdict(state, weights, window);
+    let v = record::verdict::reset_verdict(state, weights, window);
     match v {
         Outcome::Refused(e) => Equalized { state, outcome: v },
         Outcome::Served => {
             let p = state.params;
             let n = weights.len() / 2;
-            let f = rules::forward(n, p.feedback_taps);
+            let f = record::rules::forward(n, p.feedback_taps);
             start_over(weights, window, n, f);
             let fresh = EqualizeState::fresh(p, state.kp, state.ki);
             Equalized {
@@ -79,7 +75,7 @@ pub fn reset(state: EqualizeState, weights: &mut [f32], window: &mut [f32]) -> E
 pub fn set_mu_cma(state: EqualizeState, mu: f32) -> Equalized
     ensures { λ r. ⌜ settled r ≡ setMuCmaDef state mu ⌝ }
 {
-    if !rules::check_mu(mu) {
+    if !record::rules::check_mu(mu) {
         return Equalized {
             state,
             outcome: Outcome::Refused(Error::MuCma),
@@ -97,7 +93,7 @@ pub fn set_mu_cma(state: EqualizeState, mu: f32) -> Equalized
 pub fn set_mu_dd(state: EqualizeState, mu: f32) -> Equalized
     ensures { λ r. ⌜ settled r ≡ setMuDdDef state mu ⌝ }
 {
-    if !rules::check_mu(mu) {
+    if !record::rules::check_mu(mu) {
         return Equalized {
             state,
             outcome: Outcome::Refused(Error::MuDd),
@@ -142,7 +138,7 @@ fn serve(
 {
     let table = &tables::COS_BITS;
     if marks.len() < SHORT {
-        reference::run(table, state, weights, window, input, output, marks)
+        plain::run(table, state, weights, window, input, output, marks)
     } else {
         runs::equalize_runs(table, state, weights, window, input, output, marks)
     }
@@ -160,7 +156,7 @@ pub fn equalize(
     ensures { λ r. ⌜ answered r (now (weights .exit)) (now (window .exit)) (now (output .exit)) (now (marks .exit))
         ≡ equalizeDef (equalizer state (now (weights .entry)) (now (window .entry))) (now (input .entry)) (now (output .entry)) (now (marks .entry)) ⌝ }
 {
-    let v = verdict::verdict(
+    let v = record::verdict::verdict(
         state,
         weights,
         window,

@@ -1,222 +1,10 @@
-// The plain path, step by step over the caller's slices: n taps in all, f of them forward, m of them feedback. `t` is the cosine table, borrowed
-// once for a whole call.
-use crate::slices;
-use crate::step;
-use crate::verdict;
-use definition::C32;
-use definition::CosSin;
+// The plain path.
 use definition::EqualizeState;
 use definition::Equalized;
 use definition::Outcome;
 ghost use mathlib.Core.Path.{_≡_};
-ghost use mathlib.Core.Bool.{true};
-ghost use mathlib.Core.List.{_++_};
-ghost use Prim.Native.Nat.{_+_, _*_, _≤_};
-ghost use lib.ListN.{length, take, drop};
-ghost use Rattle.tables.specs.Table.{cosBits};
-ghost use Rattle.definition.specs.Floats.{complex, zeroC};
-ghost use Rattle.definition.specs.Slices.{shifted, samplesOf};
-ghost use Rattle.definition.specs.Packed.{equalizer, answered, Shaped, Ran};
-ghost use Rattle.definition.specs.Sample.{step2, step3, hear as hearDef, heardAs, sampleDef};
-ghost use Rattle.definition.specs.Rules.{ruleR4, acceptedDef};
-ghost use Rattle.definition.specs.Run.{runDef};
+ghost use Rattle.definition.specs.Packed.{equalizer, answered};
 ghost use Rattle.definition.specs.Calls.{equalizeDef};
-ghost use Rattle.equalize.specs.Pieces.{Sized, heardWith, stage, did};
-
-// What step 8 starts from.
-pub(crate) struct Stage {
-    pub(crate) state: EqualizeState,
-    pub(crate) out: C32,
-    pub(crate) fed: C32,
-    pub(crate) mark: u8,
-}
-
-// What a sample gives.
-pub(crate) struct Sampled {
-    pub(crate) state: EqualizeState,
-    pub(crate) out: C32,
-    pub(crate) mark: u8,
-}
-
-// Steps 5 to 7, with the symbol z and the decision d.
-fn hear_with(
-    s: EqualizeState,
-    w: &mut [f32],
-    h: &[f32],
-    y: C32,
-    turn: CosSin,
-    z: C32,
-    d: C32,
-    n: usize,
-    f: usize,
-) -> Stage
-    requires { ⌜ Sized s (now w) (now h) n f ⌝ }
-    ensures { λ r. ⌜ stage r (now (w .exit)) ≡ heardAs s (now (w .entry)) n f (now (h .entry)) (heardWith s n f (now (h .entry)) y turn z d) ⌝ }
-{
-    let ed = step::minus(z, d);
-    let mode = s.mode;
-    let p = s.params;
-    let k = p.constellation;
-    let e = step::error_of(mode, k, y, ed, turn);
-    let forward = slices::window_power(h, f);
-    let power = slices::window_power(h, n);
-    let u = step::update_for(s, e, forward, power);
-    slices::update_weights(u, w, h, n, f);
-    let fed = step::fed_back(mode, forward, d, turn);
-    let state = step::next_state(s, z, d, ed);
-    Stage {
-        state,
-        out: z,
-        fed,
-        mark: 0,
-    }
-}
-
-// Steps 4 to 7: a sample whose sum y is finite.
-fn hear(
-    t: &[u32; 4097],
-    s: EqualizeState,
-    w: &mut [f32],
-    h: &[f32],
-    y: C32,
-    n: usize,
-    f: usize,
-) -> Stage
-    requires { ⌜ now t ≡ cosBits ⌝ }
-    requires { ⌜ Sized s (now w) (now h) n f ⌝ }
-    ensures { λ r. ⌜ stage r (now (w .exit)) ≡ heardAs s (now (w .entry)) n f (now (h .entry)) (hearDef s n f (now (h .entry)) y) ⌝ }
-{
-    let p = s.params;
-    let k = p.constellation;
-    let turn = mix::cos_sin(t, s.phase);
-    let z = costas::derotate(y, turn);
-    let d = constellation::decide(k, z);
-    hear_with(s, w, h, y, turn, z, d, n, f)
-}
-
-// A sample that is not heard.
-fn passed(state: EqualizeState, mark: u8) -> Stage
-    ensures { λ r. ⌜ (r .state ≡ state) × ((r .out ≡ zeroC) × ((r .fed ≡ zeroC) × (r .mark ≡ mark))) ⌝ }
-{
-    Stage {
-        state,
-        out: step::zero(),
-        fed: step::zero(),
-        mark,
-    }
-}
-
-// Steps 2 to 7, over the shifted window.
-fn took(
-    t: &[u32; 4097],
-    s: EqualizeState,
-    w: &mut [f32],
-    h: &[f32],
-    x: C32,
-    n: usize,
-    f: usize,
-) -> Stage
-    requires { ⌜ now t ≡ cosBits ⌝ }
-    requires { ⌜ Sized s (now w) (now h) n f ⌝ }
-    ensures { λ r. ⌜ stage r (now (w .exit)) ≡ step3 s (now (w .entry)) n f x (now (h .entry)) (step2 n (now (w .entry)) (now (h .entry))) ⌝ }
-{
-    if !step::finite_c(x) {
-        return passed(s, 1);
-    }
-    let y = dot::dot_complex_c32(h, w);
-    if !step::finite_c(y) {
-        return passed(s, 2);
-    }
-    hear(t, s, w, h, y, n, f)
-}
-
-// v into the m numbers of the window that start at f.
-fn feed(h: &mut [f32], f: usize, m: usize, v: C32)
-    requires { ⌜ (length (now h) ≡ 2 * (f + m)) × (f + m ≤ 126) ⌝ }
-    ensures { λ _. ⌜ now (h .exit) ≡ take (2 * f) (now (h .entry)) ++ shifted m v (drop (2 * f) (now (h .entry))) ⌝ }
-{
-    let a = 2 * f;
-    slices::shift(&mut h[a..], m, v);
-}
-
-// Steps 1 to 8.
-fn sample_sized(
-    t: &[u32; 4097],
-    s: EqualizeState,
-    w: &mut [f32],
-    h: &mut [f32],
-    x: C32,
-    n: usize,
-    f: usize,
-) -> Sampled
-    requires { ⌜ now t ≡ cosBits ⌝ }
-    requires { ⌜ Sized s (now w) (now h) n f ⌝ }
-    requires { ⌜ ruleR4 s ≡ true ⌝ }
-    ensures { λ r. ⌜ did r (now (w .exit)) (now (h .exit)) ≡ sampleDef (equalizer s (now (w .entry)) (now (h .entry))) x ⌝ }
-{
-    slices::shift(h, f, step::sanitize(x));
-    let r = took(t, s, w, h, x, n, f);
-    let p = s.params;
-    let m = p.feedback_taps;
-    let fed = r.fed;
-    feed(h, f, m, fed);
-    let next = r.state;
-    let out = r.out;
-    let state = step::advance(next);
-    Sampled {
-        state,
-        out,
-        mark: r.mark,
-    }
-}
-
-// One sample of an accepted record.
-fn sample(t: &[u32; 4097], s: EqualizeState, w: &mut [f32], h: &mut [f32], x: C32) -> Sampled
-    requires { ⌜ now t ≡ cosBits ⌝ }
-    requires { ⌜ acceptedDef (equalizer s (now w) (now h)) ≡ true ⌝ }
-    ensures { λ r. ⌜ did r (now (w .exit)) (now (h .exit)) ≡ sampleDef (equalizer s (now (w .entry)) (now (h .entry))) x ⌝ }
-{
-    let n = w.len() / 2;
-    let p = s.params;
-    let f = n - p.feedback_taps;
-    sample_sized(t, s, w, h, x, n, f)
-}
-
-// A block of samples.
-pub(crate) fn run(
-    t: &[u32; 4097],
-    state: EqualizeState,
-    weights: &mut [f32],
-    window: &mut [f32],
-    input: &[f32],
-    output: &mut [f32],
-    marks: &mut [u8],
-) -> EqualizeState
-    requires { ⌜ now t ≡ cosBits ⌝ }
-    requires { ⌜ Shaped (equalizer state (now weights) (now window)) (now input) (now output) (now marks) ⌝ }
-    ensures { λ r. ⌜ Ran (runDef (equalizer state (now (weights .entry)) (now (window .entry))) (samplesOf (now (input .entry))))
-        (equalizer r (now (weights .exit)) (now (window .exit))) (now (output .exit)) (now (marks .exit)) ⌝ }
-{
-    let mut s = state;
-    let mut i = 0usize;
-    let mut k = 0usize;
-    while i < marks.len() {
-        let x = C32 {
-            re: input[k],
-            im: input[k + 1],
-        };
-        let r = sample(t, s, weights, window, x);
-        let out = r.out;
-        output[k] = out.re;
-        output[k + 1] = out.im;
-        marks[i] = r.mark;
-        let next = r.state;
-        s = next;
-        i += 1;
-        k += 2;
-    }
-    s
-}
 
 // A block of samples by the plain path, or a refusal that leaves all as it was.
 pub fn equalize(
@@ -230,7 +18,7 @@ pub fn equalize(
     ensures { λ r. ⌜ answered r (now (weights .exit)) (now (window .exit)) (now (output .exit)) (now (marks .exit))
         ≡ equalizeDef (equalizer state (now (weights .entry)) (now (window .entry))) (now (input .entry)) (now (output .entry)) (now (marks .entry)) ⌝ }
 {
-    let v = verdict::verdict(
+    let v = record::verdict::verdict(
         state,
         weights,
         window,
@@ -242,7 +30,7 @@ pub fn equalize(
         Outcome::Refused(e) => Equalized { state, outcome: v },
         Outcome::Served => {
             let table = &tables::COS_BITS;
-            let next = run(table, state, weights, window, input, output, marks);
+            let next = plain::run(table, state, weights, window, input, output, marks);
             Equalized {
                 state: next,
                 outcome: v,

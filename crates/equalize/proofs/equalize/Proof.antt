@@ -1,11 +1,11 @@
 use borrow.Author.Needs.{needs}
-use Rattle.equalize.proofs.Checking.{call-shaped, call-refused, call-served}
+use Rattle.equalize.proofs.Calls.{call-shaped, call-refused, call-served}
 use Rattle.equalize.proofs.equalize.Statement.{statement}
 use Rattle.equalize.proofs.equalize.Tie as tie
 use Rattle.equalize.proofs.equalize.Reads as reads
 use Rattle.equalize.proofs.equalize.Lts as lts
 use Rattle.equalize.proofs.serve.Reads as serve-reads
-use Rattle.equalize.proofs.verdict.verdict.Reads as verdict-reads
+use Rattle.record.proofs.verdict.verdict.Reads as verdict-reads
 
 -- src/lib.rt:163:9
 verdict-requires : tie.Need-verdict-requires

@@ -1,5 +1,5 @@
 use borrow.Author.Needs.{needs}
-use Rattle.equalize.proofs.Checking.{fresh-is}
+use Rattle.equalize.proofs.Calls.{fresh-is}
 use Rattle.equalize.proofs.fresh_state.Statement.{statement}
 use Rattle.equalize.proofs.fresh_state.Tie as tie
 use Rattle.equalize.proofs.fresh_state.Reads as reads

@@ -1,14 +1,14 @@
 use borrow.Author.Needs.{needs}
 use denote.Ref.{now}
-use Rattle.equalize.proofs.Checking.{new-refused, new-done, new-fits}
+use Rattle.equalize.proofs.Calls.{new-refused, new-done, new-fits}
 use Rattle.equalize.proofs.new.Statement.{statement}
 use Rattle.equalize.proofs.new.Tie as tie
 use Rattle.equalize.proofs.new.Reads as reads
 use Rattle.equalize.proofs.new.Lts as lts
 use Rattle.equalize.proofs.fresh_state.Reads as fresh-state-reads
-use Rattle.equalize.proofs.rules.forward.Reads as forward-reads
+use Rattle.record.proofs.rules.forward.Reads as forward-reads
 use Rattle.equalize.proofs.start_over.Reads as start-over-reads
-use Rattle.equalize.proofs.verdict.new_verdict.Reads as new-verdict-reads
+use Rattle.record.proofs.verdict.new_verdict.Reads as new-verdict-reads
 
 -- src/lib.rt:44:9
 new-verdict-requires : tie.Need-new-verdict-requires

@@ -1,13 +1,13 @@
 use borrow.Author.Needs.{needs}
-use Rattle.equalize.proofs.Checking.{reset-refused, reset-done, reset-fits}
+use Rattle.equalize.proofs.Calls.{reset-refused, reset-done, reset-fits}
 use Rattle.equalize.proofs.reset.Statement.{statement}
 use Rattle.equalize.proofs.reset.Tie as tie
 use Rattle.equalize.proofs.reset.Reads as reads
 use Rattle.equalize.proofs.reset.Lts as lts
 use Rattle.definition.proofs.EqualizeState.fresh.Reads as fresh-reads
-use Rattle.equalize.proofs.rules.forward.Reads as forward-reads
+use Rattle.record.proofs.rules.forward.Reads as forward-reads
 use Rattle.equalize.proofs.start_over.Reads as start-over-reads
-use Rattle.equalize.proofs.verdict.reset_verdict.Reads as reset-verdict-reads
+use Rattle.record.proofs.verdict.reset_verdict.Reads as reset-verdict-reads
 
 -- src/lib.rt:60:9
 reset-verdict-requires : tie.Need-reset-verdict-requires

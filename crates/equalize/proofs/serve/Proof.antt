@@ -5,7 +5,7 @@ use Rattle.equalize.proofs.serve.Statement.{statement}
 use Rattle.equalize.proofs.serve.Tie as tie
 use Rattle.equalize.proofs.serve.Reads as reads
 use Rattle.equalize.proofs.serve.Lts as lts
-use Rattle.equalize.proofs.reference.run.Reads as run-reads
+use Rattle.plain.proofs.run.Reads as run-reads
 use Rattle.runs.proofs.equalize_runs.Reads as equalize-runs-reads
 
 -- src/lib.rt:145:9

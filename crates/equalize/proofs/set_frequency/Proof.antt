@@ -1,5 +1,5 @@
 use borrow.Author.Needs.{needs}
-use Rattle.equalize.proofs.Checking.{freq-nan, freq-number}
+use Rattle.equalize.proofs.Calls.{freq-nan, freq-number}
 use Rattle.equalize.proofs.set_frequency.Statement.{statement}
 use Rattle.equalize.proofs.set_frequency.Tie as tie
 use Rattle.equalize.proofs.set_frequency.Reads as reads

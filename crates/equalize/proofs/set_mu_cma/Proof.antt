@@ -1,11 +1,11 @@
 use borrow.Author.Needs.{needs}
 use borrow.Author.Tests.{not-true, not-false}
-use Rattle.equalize.proofs.Checking.{cma-no, cma-yes}
+use Rattle.equalize.proofs.Calls.{cma-no, cma-yes}
 use Rattle.equalize.proofs.set_mu_cma.Statement.{statement}
 use Rattle.equalize.proofs.set_mu_cma.Tie as tie
 use Rattle.equalize.proofs.set_mu_cma.Reads as reads
 use Rattle.equalize.proofs.set_mu_cma.Lts as lts
-use Rattle.equalize.proofs.rules.check_mu.Reads as check-mu-reads
+use Rattle.record.proofs.rules.check_mu.Reads as check-mu-reads
 
 -- src/lib.rt:81:9
 check-mu-requires : tie.Need-check-mu-requires

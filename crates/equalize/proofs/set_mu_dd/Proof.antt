@@ -1,11 +1,11 @@
 use borrow.Author.Needs.{needs}
 use borrow.Author.Tests.{not-true, not-false}
-use Rattle.equalize.proofs.Checking.{dd-no, dd-yes}
+use Rattle.equalize.proofs.Calls.{dd-no, dd-yes}
 use Rattle.equalize.proofs.set_mu_dd.Statement.{statement}
 use Rattle.equalize.proofs.set_mu_dd.Tie as tie
 use Rattle.equalize.proofs.set_mu_dd.Reads as reads
 use Rattle.equalize.proofs.set_mu_dd.Lts as lts
-use Rattle.equalize.proofs.rules.check_mu.Reads as check-mu-reads
+use Rattle.record.proofs.rules.check_mu.Reads as check-mu-reads
 
 -- src/lib.rt:99:9
 check-mu-requires : tie.Need-check-mu-requires

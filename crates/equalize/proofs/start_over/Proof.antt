@@ -1,12 +1,12 @@
 use borrow.Author.Needs.{needs}
 use denote.Ref.{now}
-use Rattle.equalize.proofs.Checking.{cleared}
+use Rattle.equalize.proofs.Calls.{cleared}
 use Rattle.equalize.proofs.start_over.Statement.{statement}
 use Rattle.equalize.proofs.start_over.Tie as tie
 use Rattle.equalize.proofs.start_over.Reads as reads
 use Rattle.equalize.proofs.start_over.Lts as lts
-use Rattle.equalize.proofs.slices.clear.Reads as clear-reads
-use Rattle.equalize.proofs.slices.start_weights.Reads as start-weights-reads
+use Rattle.record.proofs.slices.clear.Reads as clear-reads
+use Rattle.record.proofs.slices.start_weights.Reads as start-weights-reads
 
 -- src/lib.rt:28:5
 start-weights-requires : tie.Need-start-weights-requires

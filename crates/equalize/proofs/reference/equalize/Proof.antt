@@ -1,13 +1,13 @@
 use borrow.Author.Needs.{needs}
 use mathlib.Core.Path.{refl}
 use Rattle.tables.specs.Table.{cosBits}
-use Rattle.equalize.proofs.Checking.{call-shaped, call-refused, call-served}
+use Rattle.equalize.proofs.Calls.{call-shaped, call-refused, call-served}
 use Rattle.equalize.proofs.reference.equalize.Statement.{statement}
 use Rattle.equalize.proofs.reference.equalize.Tie as tie
 use Rattle.equalize.proofs.reference.equalize.Reads as reads
 use Rattle.equalize.proofs.reference.equalize.Lts as lts
-use Rattle.equalize.proofs.reference.run.Reads as run-reads
-use Rattle.equalize.proofs.verdict.verdict.Reads as verdict-reads
+use Rattle.plain.proofs.run.Reads as run-reads
+use Rattle.record.proofs.verdict.verdict.Reads as verdict-reads
 
 -- src/reference.rt:233:9
 verdict-requires : tie.Need-verdict-requires

@@ -1,0 +1,41 @@
+// Loops over weights and window.
+ghost use mathlib.Core.Path.{_≡_};
+ghost use Prim.Native.Nat.{_*_, _/_, _≤_};
+ghost use lib.ListN.{length};
+ghost use lib.Ieee.Scale.{finite};
+ghost use Rattle.definition.specs.Slices.{every, zeros, startWeights};
+
+// Whether every part is finite.
+pub fn all_finite(x: &[f32]) -> bool
+    ensures { λ r. ⌜ r ≡ every finite (now (x .entry)) ⌝ }
+{
+    let mut i = 0usize;
+    while i < x.len() {
+        if !numeric::is_finite(x[i]) {
+            return false;
+        }
+        i += 1;
+    }
+    true
+}
+
+// +0 everywhere.
+pub fn clear(x: &mut [f32])
+    ensures { λ _. ⌜ now (x .exit) ≡ zeros (length (now (x .entry))) ⌝ }
+{
+    let mut i = 0usize;
+    while i < x.len() {
+        x[i] = 0.0;
+        i += 1;
+    }
+}
+
+// The start weights, n of them: the centre forward tap at 1, the others at 0.
+pub fn start_weights(w: &mut [f32], n: usize, taps: usize)
+    requires { ⌜ (length (now w) ≡ 2 * n) × ((1 ≤ taps) × (taps ≤ n)) ⌝ }
+    ensures { λ _. ⌜ now (w .exit) ≡ startWeights n (taps / 2) ⌝ }
+{
+    clear(w);
+    let j = 2 * (taps / 2);
+    w[j] = 1.0;
+}
