@@ -1,3 +1,4 @@
 -- Laws that belong to no one function.
 pub mod Bits
 pub mod Checking
+pub mod Every

@@ -113,14 +113,13 @@ pub(crate) fn rule_r2(s: EqualizeState) -> bool
 fn all_fit(x: &[f32]) -> bool
     ensures { λ r. ⌜ r ≡ every weightFits (now (x .entry)) ⌝ }
 {
+    let mut ok = true;
     let mut i = 0usize;
     while i < x.len() {
-        if !weight_fits(x[i]) {
-            return false;
-        }
+        ok = ok & weight_fits(x[i]);
         i += 1;
     }
-    true
+    ok
 }
 
 fn rule_r3(s: EqualizeState, w: &[f32], h: &[f32]) -> bool

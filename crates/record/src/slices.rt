@@ -9,14 +9,13 @@ ghost use Rattle.definition.specs.Slices.{every, zeros, startWeights};
 pub fn all_finite(x: &[f32]) -> bool
     ensures { λ r. ⌜ r ≡ every finite (now (x .entry)) ⌝ }
 {
+    let mut ok = true;
     let mut i = 0usize;
     while i < x.len() {
-        if !numeric::is_finite(x[i]) {
-            return false;
-        }
+        ok = ok & numeric::is_finite(x[i]);
         i += 1;
     }
-    true
+    ok
 }
 
 // +0 everywhere.

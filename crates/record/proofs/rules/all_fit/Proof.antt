@@ -1,12 +1,12 @@
 use borrow.Author.Needs.{needs}
 use Prim.Native.Nat.{ℕ, _+_, _-_, _*_, _≤_}
 use mathlib.Core.Path.{_≡_, refl}
+use mathlib.Core.Bool.{_&&_}
 use native.Mathlib.Omega.{arith}
 use lib.ListN.{length, drop}
-use borrow.Author.Tests.{not-true, not-false}
 use Rattle.definition.specs.Slices.{every}
 use Rattle.definition.specs.Rules.{weightFits}
-use Rattle.definition.proofs.Mapped.{every-more, every-stop, every-all}
+use Rattle.record.proofs.Every.{every-more, every-all}
 use Rattle.record.proofs.rules.all_fit.Statement.{statement}
 use Rattle.record.proofs.rules.all_fit.Tie as tie
 use Rattle.record.proofs.rules.all_fit.Reads as reads
@@ -14,12 +14,10 @@ use Rattle.record.proofs.rules.all_fit.Lts as lts
 use Rattle.record.proofs.rules.weight_fits.Reads as weight-fits-reads
 
 abbrev Inv-loop : tie.InvT-loop
-Inv-loop x i₀ i =
-    (i ≤ length x) × (every weightFits (drop i x) ≡ every weightFits x)
+Inv-loop x ok₀ i₀ ok i = (i ≤ length x) × ((ok && every weightFits (drop i x)) ≡ every weightFits x)
 
 abbrev μ-loop : tie.MeasureT-loop
-μ-loop x i₀ i =
-    length x - i
+μ-loop x ok₀ i₀ ok i = length x - i
 
 -- src/rules.rt:117:5
 loop-holds : tie.Need-loop-holds Inv-loop μ-loop
@@ -37,10 +35,6 @@ shared-slice-read-weight-fits c = search needs
 weight-fits-requires : tie.Need-weight-fits-requires Inv-loop μ-loop
 weight-fits-requires c κs = search needs
 
--- src/rules.rt:119:13
-returns : tie.Need-returns Inv-loop μ-loop
-returns c = search (every-stop, not-true)
-
 -- src/rules.rt:121:9
 add-i : tie.Need-add-i Inv-loop μ-loop
 add-i c = search needs
@@ -51,11 +45,11 @@ loop-less c = search needs
 
 -- src/rules.rt:117:5
 loop-again : tie.Need-loop-again Inv-loop μ-loop
-loop-again c = (omega arith, search (every-more, not-false))
+loop-again c = (omega arith, search every-more)
 
 -- src/rules.rt:113:1
-returns-2 : tie.Need-returns-2 Inv-loop μ-loop
-returns-2 c = search every-all
+returns : tie.Need-returns Inv-loop μ-loop
+returns c = search every-all
 
 pub all-fit-spec : {M : Type 1} → statement M
 all-fit-spec =
@@ -67,8 +61,7 @@ all-fit-spec =
     mul-weight-fits
     shared-slice-read-weight-fits
     weight-fits-requires
-    returns
     add-i
     loop-less
     loop-again
-    returns-2)
+    returns)

@@ -1,12 +1,12 @@
 use borrow.Author.Needs.{needs}
 use Prim.Native.Nat.{ℕ, _+_, _-_, _*_, _≤_}
 use mathlib.Core.Path.{_≡_, refl}
+use mathlib.Core.Bool.{_&&_}
 use native.Mathlib.Omega.{arith}
 use lib.ListN.{length, drop}
 use lib.Ieee.Scale.{finite}
-use borrow.Author.Tests.{not-true, not-false}
 use Rattle.definition.specs.Slices.{every}
-use Rattle.definition.proofs.Mapped.{every-more, every-stop, every-all}
+use Rattle.record.proofs.Every.{every-more, every-all}
 use Rattle.record.proofs.slices.all_finite.Statement.{statement}
 use Rattle.record.proofs.slices.all_finite.Tie as tie
 use Rattle.record.proofs.slices.all_finite.Reads as reads
@@ -14,12 +14,10 @@ use Rattle.record.proofs.slices.all_finite.Lts as lts
 use Rattle.numeric.proofs.is_finite.Reads as is-finite-reads
 
 abbrev Inv-loop : tie.InvT-loop
-Inv-loop x i₀ i =
-    (i ≤ length x) × (every finite (drop i x) ≡ every finite x)
+Inv-loop x ok₀ i₀ ok i = (i ≤ length x) × ((ok && every finite (drop i x)) ≡ every finite x)
 
 abbrev μ-loop : tie.MeasureT-loop
-μ-loop x i₀ i =
-    length x - i
+μ-loop x ok₀ i₀ ok i = length x - i
 
 -- src/slices.rt:100:5
 loop-holds : tie.Need-loop-holds Inv-loop μ-loop
@@ -37,10 +35,6 @@ shared-slice-read-is-finite c = search needs
 is-finite-requires : tie.Need-is-finite-requires Inv-loop μ-loop
 is-finite-requires c κs = search needs
 
--- src/slices.rt:102:13
-returns : tie.Need-returns Inv-loop μ-loop
-returns c = search (every-stop, not-true)
-
 -- src/slices.rt:104:9
 add-i : tie.Need-add-i Inv-loop μ-loop
 add-i c = search needs
@@ -51,11 +45,11 @@ loop-less c = search needs
 
 -- src/slices.rt:100:5
 loop-again : tie.Need-loop-again Inv-loop μ-loop
-loop-again c = (omega arith, search (every-more, not-false))
+loop-again c = (omega arith, search every-more)
 
 -- src/slices.rt:96:1
-returns-2 : tie.Need-returns-2 Inv-loop μ-loop
-returns-2 c = search every-all
+returns : tie.Need-returns Inv-loop μ-loop
+returns c = search every-all
 
 pub all-finite-spec : {M : Type 1} → statement M
 all-finite-spec =
@@ -67,8 +61,7 @@ all-finite-spec =
     mul-is-finite
     shared-slice-read-is-finite
     is-finite-requires
-    returns
     add-i
     loop-less
     loop-again
-    returns-2)
+    returns)
