@@ -1,9 +1,7 @@
 -- The steps of one sample over numbers: one law for each exit. Assumes nothing.
-use Prim.Native.Nat.{ℕ, _+_, _<_, _≤_}
-use mathlib.Core.Path.{_≡_, refl, sym, subst}
+use Prim.Native.Nat.{_+_}
+use mathlib.Core.Path.{_≡_}
 use mathlib.Core.Bool.{Bool, true, false, cond, _&&_}
-use lib.Dec.{T, eqb, ltb, ltb→lt}
-use borrow.Author.Tests.{eq-eqb, ne-eqb, le-ltb, lt-ltb}
 use lib.Ieee.{Float}
 use lib.Ieee.Scale.{finite}
 use Rattle.definition.specs.declared.C32.{C32}
@@ -12,14 +10,11 @@ use Rattle.definition.specs.declared.EqMode.{EqMode}
 use Rattle.definition.specs.declared.EqMode.the-variants.{Cma, Decision}
 use Rattle.definition.specs.declared.EqConstellation.{EqConstellation}
 use Rattle.definition.specs.declared.EqParams.{EqParams}
-use Rattle.definition.specs.declared.EqualizeState.{EqualizeState}
-use Rattle.definition.specs.declared.Update.{Update}
 use Rattle.definition.specs.declared.Update.the-variants.{Step, Hold}
 use Rattle.definition.specs.Floats.{_+f_, _-f_, _*f_, zero32, one32, mseAlpha, flush, zeroC, finiteC, clipC}
 use Rattle.definition.specs.Points.{radius}
 use Rattle.definition.specs.Turns.{rotated}
-use Rattle.definition.specs.Sample.{neverSwitch, sanitized, mseAfter, godardError, errorOf, fedOf, muOf, live, updateOf, phaseError, withMode, advanceIn, advance}
-use Rattle.definition.specs.Rules.{countFits, ruleR4}
+use Rattle.definition.specs.Sample.{sanitized, mseAfter, godardError, errorOf, fedOf, muOf, live, updateOf, phaseError}
 
 module _ (x : C32) (b : Bool) (e : b ≡ finiteC x) where
   pub sanitized-yes : b ≡ true → x ≡ sanitized x
@@ -87,26 +82,3 @@ module _ (z d : C32) (b : Bool) (e : b ≡ finite (z .im *f d .re -f z .re *f d 
   pub detected-no : b ≡ false → zero32 ≡ phaseError z d
   unfolding phaseError
   detected-no h = rw (← e, h)
-
--- ---- advance
-module _ (s : EqualizeState) where
-  pub adv-decision : s .mode ≡ Decision → s ≡ advance s
-  unfolding advance advanceIn
-  adv-decision m = rw m
-
-  pub adv-never : s .mode ≡ Cma → s .params .«cma_symbols» ≡ 4294967295 → s ≡ advance s
-  unfolding advance advanceIn
-  adv-never m t = rw (m, eq-eqb (s .params .«cma_symbols») neverSwitch t)
-
-  module _ (m : s .mode ≡ Cma) (t : s .params .«cma_symbols» ≡ 4294967295 → ⊥) where
-    pub adv-more : s .count + 1 < s .params .«cma_symbols» → withMode s (s .mode) (s .count + 1) ≡ advance s
-    unfolding advance advanceIn
-    adv-more l = rw (m, ne-eqb (s .params .«cma_symbols») neverSwitch t, lt-ltb (s .count + 1) (s .params .«cma_symbols») l)
-
-    pub adv-switch : s .params .«cma_symbols» ≤ s .count + 1 → withMode s Decision (s .count + 1) ≡ advance s
-    unfolding advance advanceIn
-    adv-switch l = rw (m, ne-eqb (s .params .«cma_symbols») neverSwitch t, le-ltb (s .count + 1) (s .params .«cma_symbols») l)
-
-    pub count-below : ruleR4 s ≡ true → s .count < s .params .«cma_symbols»
-    unfolding ruleR4 countFits
-    count-below h = ltb→lt _ _ (subst T (sym (rw (m, ne-eqb (s .params .«cma_symbols») neverSwitch t) at h)) tt)

@@ -160,7 +160,7 @@ fn sample_sized(
     feed(h, f, m, fed);
     let next = r.state;
     let out = r.out;
-    let state = step::advance(next);
+    let state = record::mode::advance(next);
     Sampled {
         state,
         out,

@@ -8,10 +8,9 @@ use definition::EqParams;
 use definition::EqualizeState;
 use definition::Update;
 ghost use mathlib.Core.Path.{_≡_};
-ghost use mathlib.Core.Bool.{true, cond};
+ghost use mathlib.Core.Bool.{cond};
 ghost use Rattle.definition.specs.Floats.{norm, zeroC, minusC, scaledC, clipC, finiteC};
-ghost use Rattle.definition.specs.Sample.{sanitized, mseAfter, godardError, errorOf, fedOf, muOf, stepSize, live as liveDef, updateOf, phaseError, freqAfter, phaseAfter, tracked, advance as advanceDef};
-ghost use Rattle.definition.specs.Rules.{ruleR4};
+ghost use Rattle.definition.specs.Sample.{sanitized, mseAfter, godardError, errorOf, fedOf, muOf, stepSize, live as liveDef, updateOf, phaseError, freqAfter, phaseAfter, tracked};
 
 pub(crate) fn finite_c(v: C32) -> bool
     ensures { λ r. ⌜ r ≡ finiteC v ⌝ }
@@ -196,33 +195,4 @@ pub(crate) fn next_state(s: EqualizeState, z: C32, d: C32, ed: C32) -> EqualizeS
     ensures { λ r. ⌜ r ≡ tracked s (norm ed) (phaseError z d) ⌝ }
 {
     track(s, slices::norm(ed), phase_error(z, d))
-}
-
-// The mode switch after a sample.
-pub(crate) fn advance(s: EqualizeState) -> EqualizeState
-    requires { ⌜ ruleR4 s ≡ true ⌝ }
-    ensures { λ r. ⌜ r ≡ advanceDef s ⌝ }
-{
-    let mode = s.mode;
-    let params = s.params;
-    let total = params.cma_symbols;
-    match mode {
-        EqMode::Decision => s,
-        EqMode::Cma => {
-            if total == 4294967295 {
-                return s;
-            }
-            let count = s.count + 1;
-            if count < total {
-                let mut t = s;
-                t.count = count;
-                return t;
-            }
-            EqualizeState {
-                mode: EqMode::Decision,
-                count,
-                ..s
-            }
-        }
-    }
 }

@@ -1,5 +1,5 @@
 -- The magnitude and the bits of a float: one law for each exit of the tests that use them. Assumes nothing.
-use Prim.Native.Nat.{ℕ, zero, suc, _+_, _-_, _*_, _^_, _<_, _≤_}
+use Prim.Native.Nat.{ℕ, zero, suc, _+_, _-_, _*_, _^_, _<_}
 use mathlib.Core.Path.{_≡_, refl, sym, _∙_, ap, subst}
 use mathlib.Core.Bool.{Bool, true, false, not, _&&_, _||_, Bool·beq}
 use native.Mathlib.Nat.{zero-mul, mul-one, one-mul, mul-comm, mul-pos, zero-lt-suc, pow-suc}

@@ -2,3 +2,4 @@
 pub mod Bits
 pub mod Checking
 pub mod Every
+pub mod Advance

@@ -1,9 +1,7 @@
 -- Steps 4 to 8 over numbers: one law for each exit. Assumes nothing.
-use Prim.Native.Nat.{_+_, _%_, _^_, _<_, _≤_}
-use mathlib.Core.Path.{_≡_, refl, sym, subst}
+use Prim.Native.Nat.{_+_, _%_, _^_}
+use mathlib.Core.Path.{_≡_, refl}
 use mathlib.Core.Bool.{Bool, true, false, cond, _&&_}
-use lib.Dec.{T, ltb, ltb→lt}
-use borrow.Author.Tests.{eq-eqb, ne-eqb, le-ltb, lt-ltb}
 use lib.Ieee.{Float, ne}
 use lib.Ieee.Scale.{finite}
 use Rattle.definition.specs.declared.C32.{C32}
@@ -18,8 +16,7 @@ use Rattle.definition.specs.Floats.{_+f_, _-f_, _*f_, zero32, one32, mseAlpha, 
 use Rattle.definition.specs.Phase.{phaseStep}
 use Rattle.definition.specs.Points.{decide, radius}
 use Rattle.definition.specs.Turns.{derotated, rotated}
-use Rattle.definition.specs.Sample.{neverSwitch, mseAfter, godardError, errorOf, fedOf, live, phaseError, freqAfter, phaseAfter, withMode, advanceIn, advance}
-use Rattle.definition.specs.Rules.{countFits, ruleR4}
+use Rattle.definition.specs.Sample.{mseAfter, godardError, errorOf, fedOf, live, phaseError, freqAfter, phaseAfter}
 use Rattle.runs.specs.declared.step.Aim.{Aim}
 use Rattle.runs.specs.declared.step.Track.{Track}
 use Rattle.runs.specs.declared.step.Stepped.{Stepped}
@@ -79,26 +76,3 @@ pub step-is : (s : EqualizeState) (t : CosSin) (y : C32) (F m : Float) (z d : C3
     → _≡_ {A = Stepped} (record { track = r; z = z; fed = fed; update = u }) (stepWith s t y F m)
 unfolding stepWith stepAt aimed minusC live ne
 step-is s t y F m z d a u fed r p1 p2 p3 p4 p5 p6 = rw (p6, p5, p4, p3, p2, p1)
-
--- ---- advance
-module _ (s : EqualizeState) where
-  pub adv-decision : s .mode ≡ Decision → s ≡ advance s
-  unfolding advance advanceIn
-  adv-decision m = rw m
-
-  pub adv-never : s .mode ≡ Cma → s .params .«cma_symbols» ≡ 4294967295 → s ≡ advance s
-  unfolding advance advanceIn
-  adv-never m t = rw (m, eq-eqb (s .params .«cma_symbols») neverSwitch t)
-
-  module _ (m : s .mode ≡ Cma) (t : s .params .«cma_symbols» ≡ 4294967295 → ⊥) where
-    pub adv-more : s .count + 1 < s .params .«cma_symbols» → withMode s (s .mode) (s .count + 1) ≡ advance s
-    unfolding advance advanceIn
-    adv-more l = rw (m, ne-eqb (s .params .«cma_symbols») neverSwitch t, lt-ltb (s .count + 1) (s .params .«cma_symbols») l)
-
-    pub adv-switch : s .params .«cma_symbols» ≤ s .count + 1 → withMode s Decision (s .count + 1) ≡ advance s
-    unfolding advance advanceIn
-    adv-switch l = rw (m, ne-eqb (s .params .«cma_symbols») neverSwitch t, le-ltb (s .count + 1) (s .params .«cma_symbols») l)
-
-    pub count-below : ruleR4 s ≡ true → s .count < s .params .«cma_symbols»
-    unfolding ruleR4 countFits
-    count-below h = ltb→lt _ _ (subst T (sym (rw (m, ne-eqb (s .params .«cma_symbols») neverSwitch t) at h)) tt)

@@ -24,7 +24,7 @@ use Rattle.runs.specs.declared.run.Shape.{Shape}
 use Rattle.runs.specs.declared.run.Sampled.{Sampled}
 use Rattle.runs.specs.Taken.{Lanes, withTrack, Faced, Samples}
 use Rattle.runs.specs.Passing.{Begun, Runs}
-use Rattle.runs.proofs.Exits.{count-below}
+use Rattle.record.proofs.Advance.{count-below}
 use Rattle.runs.proofs.Folding.{Running, running-none, running-more, running-all}
 
 -- after k samples from q₀: weights and window, how far the block has come, what the arrays hold, and the mode

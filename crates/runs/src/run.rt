@@ -288,7 +288,7 @@ fn sample(
     let track = r.track;
     let out = r.z;
     lanes::run::feed(dr, di, dq, at + 8, fed);
-    let state = step::advance(step::with_track(s, track));
+    let state = record::mode::advance(step::with_track(s, track));
     Sampled {
         state,
         out,

@@ -5,13 +5,12 @@ use definition::EqMode;
 use definition::EqualizeState;
 use definition::Update;
 ghost use mathlib.Core.Path.{_≡_};
-ghost use mathlib.Core.Bool.{true, cond};
+ghost use mathlib.Core.Bool.{cond};
 ghost use Prim.Native.Nat.{_+_, _%_, _^_};
 ghost use Rattle.tables.specs.Table.{cosBits};
 ghost use Rattle.definition.specs.Floats.{norm, one32, zeroC, scaledC, clipC};
 ghost use Rattle.definition.specs.Phase.{phaseStep};
-ghost use Rattle.definition.specs.Sample.{mseAfter, godardError, withRunning, phaseError, advance as advanceDef};
-ghost use Rattle.definition.specs.Rules.{ruleR4};
+ghost use Rattle.definition.specs.Sample.{mseAfter, godardError, withRunning, phaseError};
 ghost use Rattle.runs.specs.Step.{trackOf, aimed, updateIf, stepWith, stepOf};
 
 // The running numbers that a heard sample changes.
@@ -166,33 +165,4 @@ pub(crate) fn follow(s: EqualizeState, t: &[u32; 4097], y: C32, forward: f32, si
 {
     let turn = mix::cos_sin(t, s.phase);
     step(s, turn, y, forward, size)
-}
-
-// The mode switch after a sample.
-pub(crate) fn advance(s: EqualizeState) -> EqualizeState
-    requires { ⌜ ruleR4 s ≡ true ⌝ }
-    ensures { λ r. ⌜ r ≡ advanceDef s ⌝ }
-{
-    let mode = s.mode;
-    let params = s.params;
-    let total = params.cma_symbols;
-    match mode {
-        EqMode::Decision => s,
-        EqMode::Cma => {
-            if total == 4294967295 {
-                return s;
-            }
-            let count = s.count + 1;
-            if count < total {
-                let mut t = s;
-                t.count = count;
-                return t;
-            }
-            EqualizeState {
-                mode: EqMode::Decision,
-                count,
-                ..s
-            }
-        }
-    }
 }

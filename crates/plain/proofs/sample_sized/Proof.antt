@@ -7,7 +7,7 @@ use Rattle.plain.proofs.sample_sized.Lts as lts
 use Rattle.plain.proofs.feed.Reads as feed-reads
 use Rattle.plain.proofs.took.Reads as took-reads
 use Rattle.plain.proofs.slices.shift.Reads as shift-reads
-use Rattle.plain.proofs.step.advance.Reads as advance-reads
+use Rattle.record.proofs.mode.advance.Reads as advance-reads
 use Rattle.plain.proofs.step.sanitize.Reads as sanitize-reads
 
 -- src/reference.rt:157:25

@@ -7,7 +7,7 @@ use Rattle.runs.proofs.run.sample.Reads as reads
 use Rattle.runs.proofs.run.sample.Lts as lts
 use Rattle.lanes.proofs.run.feed.Reads as feed-reads
 use Rattle.runs.proofs.run.take.Reads as take-reads
-use Rattle.runs.proofs.step.advance.Reads as advance-reads
+use Rattle.record.proofs.mode.advance.Reads as advance-reads
 use Rattle.runs.proofs.step.with_track.Reads as with-track-reads
 
 -- src/run.rt:268:9
