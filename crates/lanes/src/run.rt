@@ -1,17 +1,13 @@
 // One sample on the arrays.
 ghost use mathlib.Core.Path.{_≡_};
-ghost use Prim.Native.Nat.{_+_, _-_, _*_, _<_, _≤_, _%_};
-ghost use lib.ListN.{length, getD, set};
-ghost use lib.Ieee.{nan};
-ghost use Rattle.definition.specs.Floats.{_+f_, _*f_, norm};
+ghost use Prim.Native.Nat.{_<_, _≤_, _%_};
+ghost use lib.ListN.{set};
+ghost use Rattle.definition.specs.Floats.{norm};
 ghost use Rattle.lanes.specs.Arrays.{arrays};
 ghost use Rattle.lanes.specs.Measures.{Measures};
-ghost use Rattle.lanes.specs.Absorbs.{Absorbs};
-use crate::adapt;
 use crate::filter;
 use crate::prepare;
 use definition::C32;
-use definition::Update;
 
 // The filter sum and the window's power.
 pub struct Measured {
@@ -64,51 +60,4 @@ pub fn feed(dr: &mut [f32; 144], di: &mut [f32; 144], dq: &mut [f32; 144], j: us
     dr[j] = v.re;
     di[j] = v.im;
     dq[j] = v.re * v.re + v.im * v.im;
-}
-
-// A sample's step of the weights, and its fed-back sample: what a sample leaves in the arrays.
-pub fn absorb(
-    u: Update,
-    fed: C32,
-    at: usize,
-    quads: usize,
-    mquads: usize,
-    front: usize,
-    centre: usize,
-    wr: &mut [f32; 72],
-    wi: &mut [f32; 72],
-    wl: &[f32; 72],
-    xr: &[f32; 144],
-    xi: &[f32; 144],
-    vr: &mut [f32; 72],
-    vi: &mut [f32; 72],
-    vl: &[f32; 72],
-    dr: &mut [f32; 144],
-    di: &mut [f32; 144],
-    dq: &mut [f32; 144],
-)
-    requires { ⌜ (length (now wr) ≡ 72) × ((length (now wi) ≡ 72) × ((length (now vr) ≡ 72) × (length (now vi) ≡ 72))) ⌝ }
-    requires { ⌜ (at ≤ 63) × ((front < 8) × ((quads ≤ 72) × ((mquads ≤ 72) × (centre < 72)))) ⌝ }
-    ensures { λ _. ⌜ Absorbs u fed at quads mquads front centre (now (wl .entry)) (now (vl .entry)) (arrays (now (wr .entry)) (now (wi .entry)) (now (vr .entry)) (now (vi .entry)) (now (xr .entry)) (now (xi .entry)) (now (dr .entry)) (now (di .entry)) (now (dq .entry))) (arrays (now (wr .exit)) (now (wi .exit)) (now (vr .exit)) (now (vi .exit)) (now (xr .entry)) (now (xi .entry)) (now (dr .exit)) (now (di .exit)) (now (dq .exit))) ⌝ }
-{
-    let bt = at + 9 - front;
-    adapt::adapt(
-        u,
-        wr,
-        wi,
-        wl,
-        xr,
-        xi,
-        at,
-        quads,
-        vr,
-        vi,
-        vl,
-        dr,
-        di,
-        bt,
-        mquads,
-        centre,
-    );
-    feed(dr, di, dq, at + 8, fed);
 }
