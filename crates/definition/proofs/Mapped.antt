@@ -4,10 +4,8 @@
 --     mapped-read, mapped-long    what stands from n on is old's; the length is old's
 --     part-even, part-odd         the parts of complex number i
 --     shift-list, clear-all, start-is, power-more     shift, zeros, start weights, window power
---     every-more, every-stop, every-all               a test of every element: what is left to test decides
 use Prim.Native.Nat.{ℕ, zero, suc, _+_, _-_, _*_, _/_, _%_, _<_, _≤_}
 use mathlib.Core.Path.{_≡_, refl, sym, _∙_, ap}
-use mathlib.Core.Bool.{Bool, true, false, _&&_}
 use mathlib.Core.List.{List, [], _∷_, _++_, append-nil}
 use native.Mathlib.Omega.{arith}
 use native.Mathlib.Numerals.{add-one}
@@ -16,7 +14,7 @@ use lib.Seq.{take-suc, drop-cons, set-at, append-snoc, getD-append-add, getD-dro
 use lib.Ieee.{Float, nan}
 use Rattle.definition.specs.declared.C32.{C32}
 use Rattle.definition.specs.Floats.{_+f_, zero32, one32, norm}
-use Rattle.definition.specs.Slices.{reAt, imAt, every, shifted, zeros, power, part, tabulate, startWeights}
+use Rattle.definition.specs.Slices.{reAt, imAt, shifted, zeros, power, part, tabulate, startWeights}
 use Rattle.definition.proofs.Every.{length-tabulate}
 
 -- ---- the first n elements replaced: l is f 0 .. f (n − 1), then the rest of old
@@ -97,16 +95,3 @@ start-is n c w z h e = rw (e, h)
 pub power-more : (x : List Float) (n : ℕ) (s v : Float) (a : C32) → s ≡ power x n → a .re ≡ reAt x n → a .im ≡ imAt x n → v ≡ norm a → s +f v ≡ power x (n + 1)
 unfolding power
 power-more x n s v a p q r e = rw (add-one, p, e, q, r)
-
--- ---- a test of every element: what is left to test decides
-pub every-more : (p : Float → Bool) (x : List Float) (i : ℕ) (v : Bool) → i < length x → v ≡ p (getD x i nan) → v ≡ true → every p (drop i x) ≡ every p x → every p (drop (i + 1) x) ≡ every p x
-unfolding every
-every-more p x i v h e t r = let f : every p (drop i x) ≡ (p (getD x i nan) && every p (drop (suc i) x)) = rw (drop-cons x i nan h) in rw (add-one, ← r, f, ← e, t)
-
-pub every-stop : (p : Float → Bool) (x : List Float) (i : ℕ) (v : Bool) → i < length x → v ≡ p (getD x i nan) → v ≡ false → every p (drop i x) ≡ every p x → false ≡ every p x
-unfolding every
-every-stop p x i v h e t r = let f : every p (drop i x) ≡ (p (getD x i nan) && every p (drop (suc i) x)) = rw (drop-cons x i nan h) in rw (← r, f, ← e, t)
-
-pub every-all : (p : Float → Bool) (x : List Float) (i : ℕ) → length x ≤ i → every p (drop i x) ≡ every p x → true ≡ every p x
-unfolding every
-every-all p x i h r = rw (← r, drop-of-length-le x {i = i} h)

@@ -136,11 +136,10 @@ fn serve(
     ensures { λ r. ⌜ Ran (runDef (equalizer state (now (weights .entry)) (now (window .entry))) (samplesOf (now (input .entry))))
         (equalizer r (now (weights .exit)) (now (window .exit))) (now (output .exit)) (now (marks .exit)) ⌝ }
 {
-    let table = &tables::COS_BITS;
     if marks.len() < SHORT {
-        plain::run(table, state, weights, window, input, output, marks)
+        plain::run(state, weights, window, input, output, marks)
     } else {
-        runs::equalize_runs(table, state, weights, window, input, output, marks)
+        runs::equalize_runs(state, weights, window, input, output, marks)
     }
 }
 

@@ -29,8 +29,7 @@ pub fn equalize(
     match v {
         Outcome::Refused(e) => Equalized { state, outcome: v },
         Outcome::Served => {
-            let table = &tables::COS_BITS;
-            let next = plain::run(table, state, weights, window, input, output, marks);
+            let next = plain::run(state, weights, window, input, output, marks);
             Equalized {
                 state: next,
                 outcome: v,

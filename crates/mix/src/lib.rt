@@ -3,6 +3,7 @@ use definition::CosSin;
 ghost use mathlib.Core.Path.{_≡_};
 ghost use Prim.Native.Nat.{_<_, _+_, _%_};
 ghost use Rattle.tables.specs.Table.{cosBits};
+ghost use Rattle.definition.specs.Floats.{_+f_, _-f_, _*f_};
 ghost use Rattle.definition.specs.Phase.{lowPart, lineAt, interpPair, cosSin};
 
 // The low 20 bits of the phase as a part of 1.
@@ -20,15 +21,28 @@ fn sine_index(idx: usize) -> usize
     (idx + 3072) & 4095
 }
 
-// The straight line from entry k to the next.
-fn line_at(t: &[u32; 4097], k: usize, f: f32) -> f32
+// The straight line from a to b, at the part f of the way.
+fn line(a: f32, b: f32, f: f32) -> f32
+    ensures { λ r. ⌜ r ≡ (b -f a) *f f +f a ⌝ }
+{
+    (b - a) * f + a
+}
+
+// The straight line from entry k to the next, from the borrowed table.
+fn line_in(t: &[u32; 4097], k: usize, f: f32) -> f32
     requires { ⌜ now t ≡ cosBits ⌝ }
     requires { ⌜ k < 4096 ⌝ }
     ensures { λ r. ⌜ r ≡ lineAt k f ⌝ }
 {
-    let a = tables::lent(t, k);
-    let b = tables::lent(t, k + 1);
-    (b - a) * f + a
+    line(tables::lent(t, k), tables::lent(t, k + 1), f)
+}
+
+// The same, without a borrowed table.
+fn line_at(k: usize, f: f32) -> f32
+    requires { ⌜ k < 4096 ⌝ }
+    ensures { λ r. ⌜ r ≡ lineAt k f ⌝ }
+{
+    line(cosine::cos_f32(k), cosine::cos_f32(k + 1), f)
 }
 
 // (cos, sin) of the phase p, from the borrowed table: the fraction is worked out once, and the sine has the index (idx + 3072) mod 4096.
@@ -39,23 +53,34 @@ pub fn interp_f32_pair_in(t: &[u32; 4097], p: u32) -> CosSin
     let idx = (p >> 20) as usize;
     let f = low_part(p);
     CosSin {
-        c: line_at(t, idx, f),
-        s: line_at(t, sine_index(idx), f),
+        c: line_in(t, idx, f),
+        s: line_in(t, sine_index(idx), f),
     }
 }
 
-// The same, with the table borrowed in the call.
+// The same, without a borrowed table: for one sample.
 pub fn interp_f32_pair(p: u32) -> CosSin
     ensures { λ r. ⌜ r ≡ interpPair p ⌝ }
 {
-    let table = &tables::COS_BITS;
-    interp_f32_pair_in(table, p)
+    let idx = (p >> 20) as usize;
+    let f = low_part(p);
+    CosSin {
+        c: line_at(idx, f),
+        s: line_at(sine_index(idx), f),
+    }
 }
 
-// c and s of step 4: (1, 0) at phase 0, which is what the table gives there, else from the table.
-pub fn cos_sin(t: &[u32; 4097], p: u32) -> CosSin
+// c and s of step 4, from the borrowed table: (1, 0) at phase 0, which is what the table gives there, else from the table.
+pub fn cos_sin_in(t: &[u32; 4097], p: u32) -> CosSin
     requires { ⌜ now t ≡ cosBits ⌝ }
     ensures { λ r. ⌜ r ≡ cosSin p ⌝ }
 {
     interp_f32_pair_in(t, p)
+}
+
+// The same, without a borrowed table: for one sample.
+pub fn cos_sin(p: u32) -> CosSin
+    ensures { λ r. ⌜ r ≡ cosSin p ⌝ }
+{
+    interp_f32_pair(p)
 }

@@ -1,5 +1,4 @@
-// The plain path, step by step over the caller's slices: n taps in all, f of them forward, m of them feedback. `t` is the cosine table, borrowed
-// once for a whole call.
+// The plain path, step by step over the caller's slices: n taps in all, f of them forward, m of them feedback.
 use definition::C32;
 use definition::CosSin;
 use definition::EqualizeState;
@@ -12,7 +11,6 @@ ghost use mathlib.Core.Bool.{true};
 ghost use mathlib.Core.List.{_++_};
 ghost use Prim.Native.Nat.{_+_, _*_, _≤_};
 ghost use lib.ListN.{length, take, drop};
-ghost use Rattle.tables.specs.Table.{cosBits};
 ghost use Rattle.definition.specs.Floats.{complex, zeroC};
 ghost use Rattle.definition.specs.Slices.{shifted, samplesOf};
 ghost use Rattle.definition.specs.Packed.{equalizer, Shaped, Ran};
@@ -71,22 +69,13 @@ fn hear_with(
 }
 
 // Steps 4 to 7: a sample whose sum y is finite.
-fn hear(
-    t: &[u32; 4097],
-    s: EqualizeState,
-    w: &mut [f32],
-    h: &[f32],
-    y: C32,
-    n: usize,
-    f: usize,
-) -> Stage
-    requires { ⌜ now t ≡ cosBits ⌝ }
+fn hear(s: EqualizeState, w: &mut [f32], h: &[f32], y: C32, n: usize, f: usize) -> Stage
     requires { ⌜ Sized s (now w) (now h) n f ⌝ }
     ensures { λ r. ⌜ stage r (now (w .exit)) ≡ heardAs s (now (w .entry)) n f (now (h .entry)) (hearDef s n f (now (h .entry)) y) ⌝ }
 {
     let p = s.params;
     let k = p.constellation;
-    let turn = mix::cos_sin(t, s.phase);
+    let turn = mix::cos_sin(s.phase);
     let z = costas::derotate(y, turn);
     let d = constellation::decide(k, z);
     hear_with(s, w, h, y, turn, z, d, n, f)
@@ -105,16 +94,7 @@ fn passed(state: EqualizeState, mark: u8) -> Stage
 }
 
 // Steps 2 to 7, over the shifted window.
-fn took(
-    t: &[u32; 4097],
-    s: EqualizeState,
-    w: &mut [f32],
-    h: &[f32],
-    x: C32,
-    n: usize,
-    f: usize,
-) -> Stage
-    requires { ⌜ now t ≡ cosBits ⌝ }
+fn took(s: EqualizeState, w: &mut [f32], h: &[f32], x: C32, n: usize, f: usize) -> Stage
     requires { ⌜ Sized s (now w) (now h) n f ⌝ }
     ensures { λ r. ⌜ stage r (now (w .exit)) ≡ step3 s (now (w .entry)) n f x (now (h .entry)) (step2 n (now (w .entry)) (now (h .entry))) ⌝ }
 {
@@ -125,7 +105,7 @@ fn took(
     if !step::finite_c(y) {
         return passed(s, 2);
     }
-    hear(t, s, w, h, y, n, f)
+    hear(s, w, h, y, n, f)
 }
 
 // v into the m numbers of the window that start at f.
@@ -139,7 +119,6 @@ fn feed(h: &mut [f32], f: usize, m: usize, v: C32)
 
 // Steps 1 to 8.
 fn sample_sized(
-    t: &[u32; 4097],
     s: EqualizeState,
     w: &mut [f32],
     h: &mut [f32],
@@ -147,13 +126,12 @@ fn sample_sized(
     n: usize,
     f: usize,
 ) -> Sampled
-    requires { ⌜ now t ≡ cosBits ⌝ }
     requires { ⌜ Sized s (now w) (now h) n f ⌝ }
     requires { ⌜ ruleR4 s ≡ true ⌝ }
     ensures { λ r. ⌜ did r (now (w .exit)) (now (h .exit)) ≡ sampleDef (equalizer s (now (w .entry)) (now (h .entry))) x ⌝ }
 {
     slices::shift(h, f, step::sanitize(x));
-    let r = took(t, s, w, h, x, n, f);
+    let r = took(s, w, h, x, n, f);
     let p = s.params;
     let m = p.feedback_taps;
     let fed = r.fed;
@@ -169,20 +147,18 @@ fn sample_sized(
 }
 
 // One sample of an accepted record.
-fn sample(t: &[u32; 4097], s: EqualizeState, w: &mut [f32], h: &mut [f32], x: C32) -> Sampled
-    requires { ⌜ now t ≡ cosBits ⌝ }
+fn sample(s: EqualizeState, w: &mut [f32], h: &mut [f32], x: C32) -> Sampled
     requires { ⌜ acceptedDef (equalizer s (now w) (now h)) ≡ true ⌝ }
     ensures { λ r. ⌜ did r (now (w .exit)) (now (h .exit)) ≡ sampleDef (equalizer s (now (w .entry)) (now (h .entry))) x ⌝ }
 {
     let n = w.len() / 2;
     let p = s.params;
     let f = n - p.feedback_taps;
-    sample_sized(t, s, w, h, x, n, f)
+    sample_sized(s, w, h, x, n, f)
 }
 
 // A block of samples.
 pub fn run(
-    t: &[u32; 4097],
     state: EqualizeState,
     weights: &mut [f32],
     window: &mut [f32],
@@ -190,7 +166,6 @@ pub fn run(
     output: &mut [f32],
     marks: &mut [u8],
 ) -> EqualizeState
-    requires { ⌜ now t ≡ cosBits ⌝ }
     requires { ⌜ Shaped (equalizer state (now weights) (now window)) (now input) (now output) (now marks) ⌝ }
     ensures { λ r. ⌜ Ran (runDef (equalizer state (now (weights .entry)) (now (window .entry))) (samplesOf (now (input .entry))))
         (equalizer r (now (weights .exit)) (now (window .exit))) (now (output .exit)) (now (marks .exit)) ⌝ }
@@ -203,7 +178,7 @@ pub fn run(
             re: input[k],
             im: input[k + 1],
         };
-        let r = sample(t, s, weights, window, x);
+        let r = sample(s, weights, window, x);
         let out = r.out;
         output[k] = out.re;
         output[k + 1] = out.im;

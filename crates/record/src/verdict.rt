@@ -77,14 +77,7 @@ fn all_even(w: usize, h: usize, xs: usize, ys: usize) -> bool
 }
 
 // Tests 1, 8, 9 and 10 of equalizing, by the lengths of input, output and marks.
-pub fn verdict(
-    s: EqualizeState,
-    w: &[f32],
-    h: &[f32],
-    xs: usize,
-    ys: usize,
-    ms: usize,
-) -> Outcome
+pub fn verdict(s: EqualizeState, w: &[f32], h: &[f32], xs: usize, ys: usize, ms: usize) -> Outcome
     ensures { λ r. ⌜ r ≡ verdictDef (rulesDef (equalizer s (now (w .entry)) (now (h .entry))))
         (record { weights = length (now (w .entry)); window = length (now (h .entry)); input = xs; output = ys; marks = ms }) ⌝ }
 {

@@ -6,14 +6,12 @@ mod run;
 mod step;
 
 ghost use mathlib.Core.Path.{_≡_};
-ghost use Rattle.tables.specs.Table.{cosBits};
 ghost use Rattle.definition.specs.Slices.{samplesOf};
 ghost use Rattle.definition.specs.Packed.{equalizer, Shaped, Ran};
 ghost use Rattle.definition.specs.Run.{runDef};
 
-// A block of samples of an accepted record. `t` is the cosine table.
+// A block of samples of an accepted record. The cosine table is borrowed once for all of it.
 pub fn equalize_runs(
-    t: &[u32; 4097],
     state: EqualizeState,
     weights: &mut [f32],
     window: &mut [f32],
@@ -21,13 +19,13 @@ pub fn equalize_runs(
     output: &mut [f32],
     marks: &mut [u8],
 ) -> EqualizeState
-    requires { ⌜ now t ≡ cosBits ⌝ }
     requires { ⌜ Shaped (equalizer state (now weights) (now window)) (now input) (now output) (now marks) ⌝ }
     ensures { λ r. ⌜ Ran (runDef (equalizer state (now (weights .entry)) (now (window .entry))) (samplesOf (now (input .entry))))
         (equalizer r (now (weights .exit)) (now (window .exit))) (now (output .exit)) (now (marks .exit)) ⌝ }
 {
+    let table = &tables::COS_BITS;
     let p = state.params;
     let m = p.feedback_taps;
     let n = weights.len() / 2 - m;
-    block::equalize(t, state, weights, window, input, output, marks, n, m)
+    block::equalize(table, state, weights, window, input, output, marks, n, m)
 }

@@ -163,6 +163,6 @@ pub(crate) fn follow(s: EqualizeState, t: &[u32; 4097], y: C32, forward: f32, si
     requires { ⌜ now t ≡ cosBits ⌝ }
     ensures { λ r. ⌜ r ≡ stepOf s y forward size ⌝ }
 {
-    let turn = mix::cos_sin(t, s.phase);
+    let turn = mix::cos_sin_in(t, s.phase);
     step(s, turn, y, forward, size)
 }

@@ -2,9 +2,9 @@
 use mathlib.Core.Path.{_≡_, refl, _∙_, ap, subst, sym}
 use mathlib.Core.Logic.{inl, inr}
 use mathlib.Core.Bool.{Bool, true, false, not, _&&_}
-use mathlib.Core.List.{List, _++_, reverse}
-use Prim.Native.Nat.{ℕ, suc, _+_, _-_, _*_, _%_, _^_, _<_, _≤_, min}
-use native.Mathlib.Nat.{mod-eq-of-lt, add-comm}
+use mathlib.Core.List.{List, [], _∷_, _++_, map, reverse}
+use Prim.Native.Nat.{ℕ, zero, suc, _+_, _-_, _*_, _%_, _^_, _<_, _≤_, min}
+use native.Mathlib.Nat.{mod-eq-of-lt, add-comm, le-of-suc-le-suc, not-suc-le-zero}
 use native.Mathlib.Omega.{arith}
 use lib.Dec.{T, leb, eqb, eqb→eq, leb→le}
 use lib.ListN.{length, getD, take, drop, length-take, length-drop, length-reverse, List·getD-append, List·getD-eq-default}
@@ -38,7 +38,7 @@ mirrored = tt
 mirror-at : (n k : ℕ) → n ≡ 4097 → n - suc k ≡ 4096 - k
 mirror-at n k e = omega arith
 
-mirror : (k : ℕ) → k < 4097 → cosAt k ≡ cosAt (4096 - k)
+pub mirror : (k : ℕ) → k < 4097 → cosAt k ≡ cosAt (4096 - k)
 unfolding cosAt
 mirror k h =
     let g = in-table k h in
@@ -214,12 +214,53 @@ neighbours k h =
     near-says (sub binary32 (cosAt (1 + k)) (cosAt k))
     (subst (λ (n : ℕ). T (near-bits (getD cosBits k 0) n)) (getD-drop 1 cosBits k 0) (at2 near-bits cosBits (drop 1 cosBits) near-all k (in-table k (more-in k h)) b))
 
+-- ---- 7. half a turn further on the sign is the opposite, in the first quarter
+opposite-all : map (ofBits binary32) (take 1024 (drop 2048 cosBits)) ≡ map (λ (x : ℕ). neg (ofBits binary32 x)) (take 1024 cosBits)
+unfolding cosBits ofBits ofFields odd trailingZeros neg
+opposite-all = refl
+
+at-map : (f : ℕ → Float) (xs : List ℕ) (d : Float) (k : ℕ) → k < length xs → getD (map f xs) k d ≡ f (getD xs k 0)
+at-map f [] d k h = absurd (not-suc-le-zero h)
+at-map f (x ∷ xs) d zero h = refl
+at-map f (x ∷ xs) d (suc k) h = at-map f xs d k (le-of-suc-le-suc h)
+
+quarter-length : length (take 1024 cosBits) ≡ 1024
+unfolding cosBits
+quarter-length = refl
+
+third-length : length (take 1024 (drop 2048 cosBits)) ≡ 1024
+unfolding cosBits
+third-length = refl
+
+pub half-turn : (k : ℕ) → k < 1024 → cosAt (2048 + k) ≡ neg (cosAt k)
+unfolding cosAt
+half-turn k h =
+    ap (ofBits binary32) (sym (getD-drop 2048 cosBits k 0) ∙ sym (getD-take 1024 (drop 2048 cosBits) k 0 h))
+    ∙ sym (at-map (ofBits binary32) (take 1024 (drop 2048 cosBits)) nan k (subst (λ (n : ℕ). k < n) (sym third-length) h))
+    ∙ ap (λ (l : List Float). getD l k nan) opposite-all
+    ∙ at-map (λ (x : ℕ). neg (ofBits binary32 x)) (take 1024 cosBits) nan k (subst (λ (n : ℕ). k < n) (sym quarter-length) h)
+    ∙ ap (λ (x : ℕ). neg (ofBits binary32 x)) (getD-take 1024 cosBits k 0 h)
+
+-- so the second quarter is the first, backwards, with the opposite sign
+pub second-quarter : (k : ℕ) → 1024 < k → k < 2049 → neg (cosAt (2048 - k)) ≡ cosAt k
+second-quarter k l h =
+    sym (half-turn (2048 - k) (back k l)) ∙ ap cosAt (again k h) ∙ sym (mirror k (here k h))
+  where
+    back : (k : ℕ) → 1024 < k → 2048 - k < 1024
+    back k l = omega arith
+
+    again : (k : ℕ) → k < 2049 → 2048 + (2048 - k) ≡ 4096 - k
+    again k h = omega arith
+
+    here : (k : ℕ) → k < 2049 → k < 4097
+    here k h = omega arith
+
 -- ---- all of them
 at-first : cosAt 0 ≡ ofBits binary32 0x3f80_0000
 unfolding cosAt cosBits
 at-first = refl
 
-at-quarter : cosAt 1024 ≡ ofBits binary32 0
+pub at-quarter : cosAt 1024 ≡ ofBits binary32 0
 unfolding cosAt cosBits
 at-quarter = refl
 
@@ -238,6 +279,7 @@ table-rules = record {
   quarter = at-quarter;
   three-quarters = at-three-quarters;
   mirror = mirror;
+  half-turn = λ k h. subst (λ (n : ℕ). cosAt n ≡ neg (cosAt k)) (add-comm 2048 k) (half-turn k h);
   falls = λ k h. is-true _ (subst (λ (n : ℕ). T (lt (cosAt n) (cosAt k))) (add-comm 1 k) (falls k h));
   whole = whole;
   circle = circle;

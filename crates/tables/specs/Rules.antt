@@ -4,7 +4,7 @@ use mathlib.Core.Path.{_≡_}
 use mathlib.Core.Bool.{Bool, true, false}
 use Prim.Native.Nat.{ℕ, _+_, _-_, _*_, _/_, _%_, _^_, _<_, _≤_}
 use lib.ListN.{length}
-use lib.Ieee.{Float, nan, inf, fin, binary32, ofBits, up, down, lt}
+use lib.Ieee.{Float, nan, inf, fin, binary32, ofBits, up, down, lt, neg}
 use lib.Ieee.Exact.{HasValue}
 use Rattle.tables.specs.Table.{cosBits, cosAt}
 
@@ -33,6 +33,8 @@ pub record TableRules : Type 0 where
   pub three-quarters : cosAt 3072 ≡ ofBits binary32 0
   -- entry k equals entry 4096 − k
   pub mirror : (k : ℕ) → k < 4097 → cosAt k ≡ cosAt (4096 - k)
+  -- half a turn further on the sign is the opposite, in the first quarter (entry 1024 and entry 3072 are both +0)
+  pub half-turn : (k : ℕ) → k < 1024 → cosAt (k + 2048) ≡ neg (cosAt k)
   -- it falls from 0 to 2048, strictly
   pub falls : (k : ℕ) → k < 2048 → lt (cosAt (k + 1)) (cosAt k) ≡ true
   -- every entry is finite and a whole number of 2^-33: its magnitude is size33 / 2^33 exactly

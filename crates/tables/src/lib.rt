@@ -4104,14 +4104,11 @@ pub const COS_BITS: [u32; 4097] = [
     0x3f800000,
 ];
 
-// Entry k; past the end +0. It stores the whole table at each call: where speed counts, borrow COS_BITS once and read by `lent`.
-pub fn cos_f32(k: usize) -> f32
-    ensures { λ r. ⌜ r ≡ cosAt k ⌝ }
+// COS_BITS is the table of specs/. No code calls this: its proof is the check.
+fn stored() -> [u32; 4097]
+    ensures { λ r. ⌜ r ≡ cosBits ⌝ }
 {
-    if k < 4097 {
-        return f32::from_bits(COS_BITS[k]);
-    }
-    0.0
+    COS_BITS
 }
 
 // Entry k of the borrowed table.

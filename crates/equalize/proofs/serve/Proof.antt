@@ -1,6 +1,4 @@
 use borrow.Author.Needs.{needs}
-use mathlib.Core.Path.{refl}
-use Rattle.tables.specs.Table.{cosBits}
 use Rattle.equalize.proofs.serve.Statement.{statement}
 use Rattle.equalize.proofs.serve.Tie as tie
 use Rattle.equalize.proofs.serve.Reads as reads
@@ -10,13 +8,11 @@ use Rattle.runs.proofs.equalize_runs.Reads as equalize-runs-reads
 
 -- src/lib.rt:145:9
 run-requires : tie.Need-run-requires
-unfolding cosBits
-run-requires c κs = (refl, c .before .before .before .before .before .before .before .before .before .before .before .pre)
+run-requires c κs = search needs
 
 -- src/lib.rt:147:9
 equalize-runs-requires : tie.Need-equalize-runs-requires
-unfolding cosBits
-equalize-runs-requires c κs = (refl, c .before .before .before .before .before .before .before .before .before .before .before .pre)
+equalize-runs-requires c κs = search needs
 
 -- src/lib.rt:131:1
 same-length : tie.Need-same-length

@@ -1,16 +1,35 @@
--- `mix::interp_f32_pair` meets its contract: the constant is the table. Assumes nothing.
+-- `mix::interp_f32_pair` meets its contract: the parts are the definition's. Assumes nothing.
 use borrow.Author.Needs.{needs}
-use mathlib.Core.Path.{refl}
-use Rattle.tables.specs.Table.{cosBits}
+use Rattle.definition.specs.Phase.{interpPair}
 use Rattle.mix.proofs.interp_f32_pair.Statement.{statement}
 use Rattle.mix.proofs.interp_f32_pair.Tie as tie
 
-interp-f32-pair-in-requires : tie.Need-interp-f32-pair-in-requires
-unfolding cosBits
-interp-f32-pair-in-requires c κs = refl
+cast-idx : tie.Need-cast-idx
+cast-idx c = search needs
+
+low-part-requires : tie.Need-low-part-requires
+low-part-requires c κs = search needs
+
+line-at-requires : tie.Need-line-at-requires
+line-at-requires c κs = search needs
+
+sine-index-requires : tie.Need-sine-index-requires
+sine-index-requires c κs = search needs
+
+line-at-requires-2 : tie.Need-line-at-requires-2
+line-at-requires-2 c κs = search needs
 
 returns : tie.Need-returns
-returns c = search needs
+unfolding interpPair
+returns c = cc
 
 pub interp-f32-pair-spec : {M : Type 1} → statement M
-interp-f32-pair-spec = tie.close (tie.spec interp-f32-pair-in-requires returns)
+interp-f32-pair-spec =
+    tie.close
+    (tie.spec
+    cast-idx
+    low-part-requires
+    line-at-requires
+    sine-index-requires
+    line-at-requires-2
+    returns)

@@ -10,14 +10,14 @@ cast-idx c = search needs
 low-part-requires : tie.Need-low-part-requires
 low-part-requires c κs = search needs
 
-line-at-requires : tie.Need-line-at-requires
-line-at-requires c κs = search needs
+line-in-requires : tie.Need-line-in-requires
+line-in-requires c κs = search needs
 
 sine-index-requires : tie.Need-sine-index-requires
 sine-index-requires c κs = search needs
 
-line-at-requires-2 : tie.Need-line-at-requires-2
-line-at-requires-2 c κs = search needs
+line-in-requires-2 : tie.Need-line-in-requires-2
+line-in-requires-2 c κs = search needs
 
 returns : tie.Need-returns
 unfolding interpPair
@@ -29,7 +29,7 @@ interp-f32-pair-in-spec =
     (tie.spec
     cast-idx
     low-part-requires
-    line-at-requires
+    line-in-requires
     sine-index-requires
-    line-at-requires-2
+    line-in-requires-2
     returns)

@@ -9,27 +9,27 @@ use Rattle.costas.proofs.derotate.Reads as derotate-reads
 use Rattle.plain.proofs.hear_with.Reads as hear-with-reads
 use Rattle.mix.proofs.cos_sin.Reads as cos-sin-reads
 
--- src/reference.rt:91:9
+-- src/lib.rt:91:9
 cos-sin-requires : tie.Need-cos-sin-requires
 cos-sin-requires c κs = search needs
 
--- src/reference.rt:92:9
+-- src/lib.rt:92:9
 derotate-requires : tie.Need-derotate-requires
 derotate-requires c κs = search needs
 
--- src/reference.rt:93:9
+-- src/lib.rt:93:9
 decide-requires : tie.Need-decide-requires
 decide-requires c κs = search needs
 
--- src/reference.rt:94:5
+-- src/lib.rt:94:5
 hear-with-requires : tie.Need-hear-with-requires
 hear-with-requires c κs = search needs
 
--- src/reference.rt:76:1
+-- src/lib.rt:76:1
 same-length : tie.Need-same-length
 same-length c = search needs
 
--- src/reference.rt:76:1
+-- src/lib.rt:76:1
 returns : tie.Need-returns
 returns c = heard-is _ _ _ _ _ _ _ _ _ _ (c .before .before .before .before .before .before .cos-sin .ensures) (c .before .before .before .before .before .derotate .ensures) (c .before .before .before .before .decide .ensures) (c .before .before .hear-with .ensures)
 

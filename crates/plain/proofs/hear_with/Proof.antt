@@ -12,43 +12,43 @@ use Rattle.plain.proofs.step.minus.Reads as minus-reads
 use Rattle.plain.proofs.step.next_state.Reads as next-state-reads
 use Rattle.plain.proofs.step.update_for.Reads as update-for-reads
 
--- src/reference.rt:56:9
+-- src/lib.rt:56:9
 minus-requires : tie.Need-minus-requires
 minus-requires c κs = search needs
 
--- src/reference.rt:60:9
+-- src/lib.rt:60:9
 error-of-requires : tie.Need-error-of-requires
 error-of-requires c κs = search needs
 
--- src/reference.rt:61:9
+-- src/lib.rt:61:9
 window-power-requires : tie.Need-window-power-requires
 window-power-requires c κs = search needs
 
--- src/reference.rt:62:9
+-- src/lib.rt:62:9
 window-power-requires-2 : tie.Need-window-power-requires-2
 window-power-requires-2 c κs = search needs
 
--- src/reference.rt:63:9
+-- src/lib.rt:63:9
 update-for-requires : tie.Need-update-for-requires
 update-for-requires c κs = search needs
 
--- src/reference.rt:64:5
+-- src/lib.rt:64:5
 update-weights-requires : tie.Need-update-weights-requires
 update-weights-requires c κs = search needs
 
--- src/reference.rt:65:9
+-- src/lib.rt:65:9
 fed-back-requires : tie.Need-fed-back-requires
 fed-back-requires c κs = search needs
 
--- src/reference.rt:66:9
+-- src/lib.rt:66:9
 next-state-requires : tie.Need-next-state-requires
 next-state-requires c κs = search needs
 
--- src/reference.rt:42:1
+-- src/lib.rt:42:1
 same-length : tie.Need-same-length
 same-length c = search needs
 
--- src/reference.rt:42:1
+-- src/lib.rt:42:1
 returns : tie.Need-returns
 returns c = heard-with _ _ _ _ _ _ _ _ _ _ _ _ _ _ _ _ _ (c .before .before .before .before .before .before .before .before .before .before .before .minus .ensures) (c .before .before .before .before .before .before .before .before .before .error-of .ensures) (c .before .before .before .before .before .before .before .before .window-power .ensures) (c .before .before .before .before .before .before .before .window-power2 .ensures) (c .before .before .before .before .before .before .update-for .ensures) (c .before .before .before .before .update-weights .ensures) (c .before .fed-back .ensures) (c .next-state .ensures)
 

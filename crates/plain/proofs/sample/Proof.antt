@@ -7,23 +7,23 @@ use Rattle.plain.proofs.sample.Reads as reads
 use Rattle.plain.proofs.sample.Lts as lts
 use Rattle.plain.proofs.sample_sized.Reads as sample-sized-reads
 
--- src/reference.rt:181:13
+-- src/lib.rt:181:13
 sub-f : tie.Need-sub-f
-sub-f c = let a = accepted-sized _ _ _ (c .before .before .before .before .pre .1) in omega (arith, a .sum, a .some)
+sub-f c = let a = accepted-sized _ _ _ (c .before .before .before .before .pre) in omega (arith, a .sum, a .some)
 
--- src/reference.rt:182:5
+-- src/lib.rt:182:5
 sample-sized-requires : tie.Need-sample-sized-requires
-sample-sized-requires c κs = (c .before .before .before .before .before .before .pre .0, (accepted-sized _ _ _ (c .before .before .before .before .before .before .pre .1), accepted-r4 _ _ _ (c .before .before .before .before .before .before .pre .1)))
+sample-sized-requires c κs = (accepted-sized _ _ _ (c .before .before .before .before .before .before .pre), accepted-r4 _ _ _ (c .before .before .before .before .before .before .pre))
 
--- src/reference.rt:174:1
+-- src/lib.rt:174:1
 same-length : tie.Need-same-length
 same-length c = search needs
 
--- src/reference.rt:174:1
+-- src/lib.rt:174:1
 same-length-2 : tie.Need-same-length-2
 same-length-2 c = search needs
 
--- src/reference.rt:174:1
+-- src/lib.rt:174:1
 returns : tie.Need-returns
 returns c = search needs
 

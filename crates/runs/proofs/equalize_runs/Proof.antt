@@ -1,6 +1,8 @@
 use borrow.Author.Needs.{needs}
 use Rattle.runs.proofs.Calling.{feedback-fits}
 use native.Mathlib.Omega.{arith}
+use mathlib.Core.Path.{refl}
+use Rattle.tables.specs.Table.{cosBits}
 use Rattle.runs.proofs.equalize_runs.Statement.{statement}
 use Rattle.runs.proofs.equalize_runs.Tie as tie
 use Rattle.runs.proofs.equalize_runs.Reads as reads
@@ -9,11 +11,12 @@ use Rattle.runs.proofs.block.equalize.Reads as equalize-reads
 
 -- src/lib.rt:31:13
 sub-n : tie.Need-sub-n
-sub-n c = omega (arith, feedback-fits _ _ _ _ _ _ (c .before .before .before .before .before .before .pre .1))
+sub-n c = omega (arith, feedback-fits _ _ _ _ _ _ (c .before .before .before .before .before .before .before .pre))
 
 -- src/lib.rt:32:5
 equalize-requires : tie.Need-equalize-requires
-equalize-requires c κs = search needs
+unfolding cosBits
+equalize-requires c κs = (refl, search needs)
 
 -- src/lib.rt:15:1
 same-length : tie.Need-same-length

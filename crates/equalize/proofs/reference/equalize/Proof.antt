@@ -1,6 +1,4 @@
 use borrow.Author.Needs.{needs}
-use mathlib.Core.Path.{refl}
-use Rattle.tables.specs.Table.{cosBits}
 use Rattle.equalize.proofs.Calls.{call-shaped, call-refused, call-served}
 use Rattle.equalize.proofs.reference.equalize.Statement.{statement}
 use Rattle.equalize.proofs.reference.equalize.Tie as tie
@@ -23,8 +21,7 @@ enum-told c = search needs
 
 -- src/reference.rt:245:17
 run-requires : tie.Need-run-requires
-unfolding cosBits
-run-requires c κs = (refl, call-shaped _ _ _ _ _ _ _ (c .before .before .before .before .before .before .before .verdict .ensures) (c .before .before .before .before .before .enum-told .given .1))
+run-requires c κs = call-shaped _ _ _ _ _ _ _ (c .before .before .before .before .before .before .verdict .ensures) (c .before .before .before .before .enum-told .given .1)
 
 -- src/reference.rt:222:1
 same-length : tie.Need-same-length
@@ -56,7 +53,7 @@ same-length-6 c = search needs
 
 -- src/reference.rt:222:1
 returns-2 : tie.Need-returns-2
-returns-2 c = call-served _ _ _ _ _ _ _ (c .before .before .before .before .before .before .before .before .before .before .before .before .before .before .before .before .verdict .ensures) (c .before .before .before .before .before .before .before .before .before .before .before .before .before .before .enum-told .given .1) _ _ _ _ _ (c .before .before .before .before .before .before .before .before .run .ensures)
+returns-2 c = call-served _ _ _ _ _ _ _ (c .before .before .before .before .before .before .before .before .before .before .before .before .before .before .before .verdict .ensures) (c .before .before .before .before .before .before .before .before .before .before .before .before .before .enum-told .given .1) _ _ _ _ _ (c .before .before .before .before .before .before .before .before .run .ensures)
 
 pub equalize-spec : {M : Type 1} → statement M
 equalize-spec =

@@ -19,11 +19,11 @@ enum-told-2 c = search needs
 
 -- src/prepare.rt:140:17
 returns : tie.Need-returns
-returns c = search (left-decision, left-never, left-none, left-some, left-all)
+returns c = search (left-never, left-all)
 
 -- src/prepare.rt:143:17
 returns-2 : tie.Need-returns-2
-returns-2 c = search (left-decision, left-never, left-none, left-some, left-all)
+returns-2 c = search (left-decision, left-none)
 
 -- src/prepare.rt:145:24
 sub-left : tie.Need-sub-left
@@ -35,15 +35,15 @@ cast-result c = search needs
 
 -- src/prepare.rt:131:1
 returns-3 : tie.Need-returns-3
-returns-3 c = search (left-decision, left-never, left-none, left-some, left-all)
+returns-3 c = search (left-decision, left-none)
 
 -- src/prepare.rt:131:1
 returns-4 : tie.Need-returns-4
-returns-4 c = search (left-decision, left-never, left-none, left-some, left-all)
+returns-4 c = search left-some
 
 -- src/prepare.rt:131:1
 returns-5 : tie.Need-returns-5
-returns-5 c = search (left-decision, left-never, left-none, left-some, left-all)
+returns-5 c = search (left-never, left-all)
 
 pub cma-left-spec : {M : Type 1} → statement M
 cma-left-spec =

@@ -4,12 +4,12 @@ use Rattle.runs.proofs.step.follow.Statement.{statement}
 use Rattle.runs.proofs.step.follow.Tie as tie
 use Rattle.runs.proofs.step.follow.Reads as reads
 use Rattle.runs.proofs.step.follow.Lts as lts
-use Rattle.mix.proofs.cos_sin.Reads as cos-sin-reads
+use Rattle.mix.proofs.cos_sin_in.Reads as cos-sin-in-reads
 use Rattle.runs.proofs.step.step.Reads as step-reads
 
 -- src/step.rt:170:9
-cos-sin-requires : tie.Need-cos-sin-requires
-cos-sin-requires c κs = search needs
+cos-sin-in-requires : tie.Need-cos-sin-in-requires
+cos-sin-in-requires c κs = search needs
 
 -- src/step.rt:171:5
 step-requires : tie.Need-step-requires
@@ -21,4 +21,4 @@ unfolding stepOf
 returns c = cc
 
 pub follow-spec : {M : Type 1} → statement M
-follow-spec = tie.close (tie.spec cos-sin-requires step-requires returns)
+follow-spec = tie.close (tie.spec cos-sin-in-requires step-requires returns)

@@ -1,0 +1,2 @@
+-- Keys: a table as a match on its index.
+pub mod Keys
