@@ -48,14 +48,14 @@ pub enum EqConstellation {
     Qam64,
 }
 
-// The settings.
+// The settings: the widest fields first, so that a copy has no padding to carry.
 pub struct EqParams {
-    pub constellation: EqConstellation,
+    pub phase_bw: f64,
     pub feedback_taps: usize,
     pub mu_cma: f32,
     pub mu_dd: f32,
     pub cma_symbols: u32,
-    pub phase_bw: f64,
+    pub constellation: EqConstellation,
 }
 
 // The record: the settings and the running floats. Weights and window are lent beside it.
