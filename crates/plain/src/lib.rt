@@ -54,8 +54,8 @@ fn hear_with(
     let p = s.params;
     let k = p.constellation;
     let e = step::error_of(mode, k, y, ed, turn);
-    let forward = slices::window_power(h, f);
-    let power = slices::window_power(h, n);
+    let forward = slices::window_power(h, 0, 0.0, f);
+    let power = slices::window_power(h, f, forward, n);
     let u = step::update_for(s, e, forward, power);
     slices::update_weights(u, w, h, n, f);
     let fed = step::fed_back(mode, forward, d, turn);

@@ -47,13 +47,13 @@ pub(crate) fn shift(x: &mut [f32], n: usize, v: C32)
     }
 }
 
-// The power of the first n numbers, summed from +0 in their order.
-pub(crate) fn window_power(x: &[f32], n: usize) -> f32
-    requires { ⌜ 2 * n ≤ length (now x) ⌝ }
+// The power of the first n numbers, summed in their order, where `first` is the sum of the first `from`.
+pub(crate) fn window_power(x: &[f32], from: usize, first: f32, n: usize) -> f32
+    requires { ⌜ (2 * n ≤ length (now x)) × ((from ≤ n) × (first ≡ powerDef (now x) from)) ⌝ }
     ensures { λ r. ⌜ r ≡ powerDef (now (x .entry)) n ⌝ }
 {
-    let mut sum = 0.0f32;
-    let mut i = 0usize;
+    let mut sum = first;
+    let mut i = from;
     while i < n {
         let a = at(x, i);
         sum = sum + norm(a);

@@ -1,4 +1,5 @@
 use borrow.Author.Needs.{needs}
+use Rattle.definition.specs.Slices.{power}
 use Rattle.plain.proofs.Hearing.{heard-with}
 use Rattle.plain.proofs.hear_with.Statement.{statement}
 use Rattle.plain.proofs.hear_with.Tie as tie
@@ -22,6 +23,7 @@ error-of-requires c κs = search needs
 
 -- src/lib.rt:61:9
 window-power-requires : tie.Need-window-power-requires
+unfolding power
 window-power-requires c κs = search needs
 
 -- src/lib.rt:62:9

@@ -12,16 +12,15 @@ use Rattle.plain.proofs.slices.at.Reads as at-reads
 use Rattle.plain.proofs.slices.norm.Reads as norm-reads
 
 abbrev Inv-loop : tie.InvT-loop
-Inv-loop x n sum₀ i₀ sum i =
+Inv-loop x from first n sum₀ i₀ sum i =
     (i ≤ n) × (sum ≡ power x i)
 
 abbrev μ-loop : tie.MeasureT-loop
-μ-loop x n sum₀ i₀ sum i =
+μ-loop x from first n sum₀ i₀ sum i =
     n - i
 
 -- src/slices.rt:58:5
 loop-holds : tie.Need-loop-holds Inv-loop μ-loop
-unfolding power
 loop-holds c = search needs
 
 -- src/slices.rt:59:13
