@@ -1,5 +1,5 @@
-// The adaptive equalizer: the record, its check and its settings, and the equalizing calls. Samples are interleaved f32, real part first; weights
-// and window are lent, forward taps, then feedback taps, newest first in each.
+// The adaptive equalizer: its public calls. Samples are interleaved f32, real part first; weights and window are lent, forward taps, then feedback
+// taps, newest first in each.
 use definition::EqParams;
 use definition::EqualizeState;
 use definition::Equalized;

@@ -2,7 +2,7 @@
 use definition::C32;
 use definition::Update;
 ghost use mathlib.Core.Path.{_≡_};
-ghost use Prim.Native.Nat.{_+_, _*_, _/_, _<_, _≤_};
+ghost use Prim.Native.Nat.{_+_, _*_, _<_, _≤_};
 ghost use lib.ListN.{length};
 ghost use Rattle.definition.specs.Floats.{_+f_, _-f_, _*f_, flush, norm as normDef};
 ghost use Rattle.definition.specs.Slices.{reAt, imAt, shifted, power as powerDef, updated};

@@ -5,7 +5,6 @@ mod block;
 mod run;
 mod step;
 
-ghost use mathlib.Core.Path.{_≡_};
 ghost use Rattle.definition.specs.Slices.{samplesOf};
 ghost use Rattle.definition.specs.Packed.{equalizer, Shaped, Ran};
 ghost use Rattle.definition.specs.Run.{runDef};
