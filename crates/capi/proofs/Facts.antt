@@ -8,9 +8,9 @@ use lib.Dec.{ltb}
 use borrow.Author.Tests.{ltb-true}
 use lib.Ieee.{isNan, ofBits, ofFields, lt, eq, le}
 use Rattle.definition.specs.Refusals.{firstOf}
-use Rattle.definition.specs.Rows.{modeNumber, constellationNumber}
+use Rattle.types.specs.Numbers.{modeNumber, constellationNumber}
 use Rattle.definition.specs.Rules.{muFits, ruleR2}
-use Rattle.definition.proofs.Verdicts.{both}
+use Rattle.definition_laws.proofs.Verdicts.{both}
 use Rattle.capi.specs.declared.EqRecord.{EqRecord}
 use Rattle.capi.specs.Raw.{knownRecord, constellationOf, modeOf, settingsIn, recordIn, settingsOut, recordOut, noRecord, unknown}
 

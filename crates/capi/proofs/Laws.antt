@@ -5,14 +5,14 @@ use mathlib.Core.Bool.{Bool, true, false, _&&_}
 use mathlib.Core.List.{List}
 use lib.ListN.{length}
 use lib.Ieee.{Float}
-use Rattle.definition.specs.declared.EqParams.{EqParams}
-use Rattle.definition.specs.declared.EqualizeState.{EqualizeState}
-use Rattle.definition.specs.declared.Equalized.{Equalized}
-use Rattle.definition.specs.declared.Error.{Error}
-use Rattle.definition.specs.declared.Error.the-variants.{Odd, Record}
-use Rattle.definition.specs.declared.Fresh.{Fresh}
-use Rattle.definition.specs.declared.Fresh.the-variants.{Made, NotMade}
-use Rattle.definition.specs.declared.Outcome.the-variants.{Served, Refused}
+use Rattle.types.specs.declared.EqParams.{EqParams}
+use Rattle.types.specs.declared.EqualizeState.{EqualizeState}
+use Rattle.types.specs.declared.Equalized.{Equalized}
+use Rattle.types.specs.declared.Error.{Error}
+use Rattle.types.specs.declared.Error.the-variants.{Odd, Record}
+use Rattle.types.specs.declared.Fresh.{Fresh}
+use Rattle.types.specs.declared.Fresh.the-variants.{Made, NotMade}
+use Rattle.types.specs.declared.Outcome.the-variants.{Served, Refused}
 use Rattle.definition.specs.Refusals.{replyOf, freshReply, firstOf}
 use Rattle.definition.specs.Packed.{equalizer, made, resetTo, settled, answered}
 use Rattle.definition.specs.Calls.{even, newDef, resetDef, setMuCmaDef, setMuDdDef, setFrequencyDef, equalizeDef}

@@ -6,19 +6,19 @@ use mathlib.Core.List.{List, [], _∷_}
 use lib.ListN.{length, getD}
 use lib.Dec.{eqb, ltb}
 use lib.Ieee.{Float}
-use Rattle.definition.specs.declared.EqMode.{EqMode}
-use Rattle.definition.specs.declared.EqMode.the-variants.{Cma, Decision}
-use Rattle.definition.specs.declared.EqConstellation.{EqConstellation}
-use Rattle.definition.specs.declared.EqConstellation.the-variants.{Bpsk, Qpsk, Psk8, Qam16, Qam64}
-use Rattle.definition.specs.declared.EqParams.{EqParams}
-use Rattle.definition.specs.declared.EqualizeState.{EqualizeState}
-use Rattle.definition.specs.declared.Error.the-variants.{Odd, Record}
-use Rattle.definition.specs.declared.Fresh.{Fresh}
-use Rattle.definition.specs.declared.Fresh.the-variants.{Made, NotMade}
-use Rattle.definition.specs.declared.Outcome.the-variants.{Served}
-use Rattle.definition.specs.Floats.{zero32, f64}
+use Rattle.types.specs.declared.EqMode.{EqMode}
+use Rattle.types.specs.declared.EqMode.the-variants.{Cma, Decision}
+use Rattle.types.specs.declared.EqConstellation.{EqConstellation}
+use Rattle.types.specs.declared.EqConstellation.the-variants.{Bpsk, Qpsk, Psk8, Qam16, Qam64}
+use Rattle.types.specs.declared.EqParams.{EqParams}
+use Rattle.types.specs.declared.EqualizeState.{EqualizeState}
+use Rattle.types.specs.declared.Error.the-variants.{Odd, Record}
+use Rattle.types.specs.declared.Fresh.{Fresh}
+use Rattle.types.specs.declared.Fresh.the-variants.{Made, NotMade}
+use Rattle.types.specs.declared.Outcome.the-variants.{Served}
+use Rattle.types.specs.Bits.{zero32, f64}
 use Rattle.definition.specs.Refusals.{replyOf, test, firstOf}
-use Rattle.definition.specs.Rows.{modeNumber, constellationNumber}
+use Rattle.types.specs.Numbers.{modeNumber, constellationNumber}
 use Rattle.definition.specs.Packed.{equalizer}
 use Rattle.definition.specs.Calls.{even, NewAnswer, newDef, ResetAnswer, resetDef, SetAnswer, setMuCmaDef, setMuDdDef, setFrequencyDef, Answer, equalizeDef}
 use Rattle.capi.specs.declared.EqSettings.{EqSettings}

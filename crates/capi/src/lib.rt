@@ -1,17 +1,17 @@
 // The equalizer for C and Rust: the record as numbers, by value. Numbers are checked on the way in. Slices cross as pointer and length.
-use definition::EqConstellation;
-use definition::EqMode;
-use definition::EqParams;
-use definition::EqualizeState;
-use definition::Equalized;
-use definition::Error;
-use definition::Fresh;
-use definition::Outcome;
+use types::EqConstellation;
+use types::EqMode;
+use types::EqParams;
+use types::EqualizeState;
+use types::Equalized;
+use types::Error;
+use types::Fresh;
+use types::Outcome;
 ghost use mathlib.Core.Path.{_≡_};
 ghost use mathlib.Core.Bool.{_&&_};
 ghost use lib.ListN.{getD};
 ghost use Rattle.definition.specs.Refusals.{replyOf, freshReply, errorValues};
-ghost use Rattle.definition.specs.Rows.{modeNumber, constellationNumber};
+ghost use Rattle.types.specs.Numbers.{modeNumber, constellationNumber};
 ghost use Rattle.definition.specs.Calls.{even as evenDef};
 ghost use Rattle.capi.specs.Raw.{knownSettings, knownRecord, constellationOf, modeOf, settingsIn, recordIn, settingsOut, recordOut, noRecord, replied, unknown as unknownDef, freshOut, filter, newRaw, resetRaw, setMuCmaRaw, setMuDdRaw, setFrequencyRaw, block, equalizeRaw};
 
@@ -237,7 +237,7 @@ fn got_of(e: Error) -> usize
 fn refused(state: EqRecord, e: Error) -> EqReply
     ensures { λ r. ⌜ r ≡ replied state (replyOf (Outcome.Refused e)) ⌝ }
 {
-    let number = definition::error_number(e);
+    let number = types::error_number(e);
     let expected = expected_of(e);
     let got = got_of(e);
     EqReply {

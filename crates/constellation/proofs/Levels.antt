@@ -9,8 +9,8 @@ use lib.Dec.{T, eqb, eqb→eq, lit≤, lit<}
 use lib.Ieee.{Float, nan, inf, fin, ofBits, ofFields, odd, up, down, lt, le, eq}
 use lib.Ieee.Fits.{down-pos, and-r}
 use Rattle.costas.proofs.Sizes.{le-yes, le-no}
-use Rattle.definition.specs.Floats.{f32}
-use Rattle.definition.specs.declared.Qam.{Qam}
+use Rattle.types.specs.Bits.{f32}
+use Rattle.types.specs.declared.Qam.{Qam}
 use Rattle.definition.specs.Points.{heldTo, levelOf}
 
 -- ---- a comparison with the whole number n * 2 ^ j, as a fact on the floor

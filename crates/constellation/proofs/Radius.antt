@@ -2,9 +2,10 @@
 use mathlib.Core.Path.{_≡_, refl}
 use lib.Count.{trailingZeros}
 use lib.Ieee.{Float, ofBits, ofFields, odd, round, units, size, span, climb}
-use Rattle.definition.specs.declared.EqConstellation.{EqConstellation}
-use Rattle.definition.specs.declared.EqConstellation.the-variants.{Bpsk, Qpsk, Psk8, Qam16, Qam64}
-use Rattle.definition.specs.Floats.{f32, one32, narrow}
+use Rattle.types.specs.declared.EqConstellation.{EqConstellation}
+use Rattle.types.specs.declared.EqConstellation.the-variants.{Bpsk, Qpsk, Psk8, Qam16, Qam64}
+use Rattle.types.specs.Bits.{f32, one32}
+use Rattle.definition.specs.Floats.{narrow}
 use Rattle.definition.specs.Points.{radius}
 
 -- what the code has of each

@@ -1,10 +1,10 @@
 // The constellations: the decision of each, and Godard's R2.
-use definition::C32;
-use definition::EqConstellation;
-use definition::Qam;
+use types::C32;
+use types::EqConstellation;
+use types::Qam;
 ghost use mathlib.Core.Path.{_≡_};
 ghost use mathlib.Core.Bool.{cond};
-ghost use Rattle.definition.specs.declared.Qam.the-variants as qam;
+ghost use Rattle.types.specs.declared.Qam.the-variants as qam;
 ghost use Rattle.definition.specs.Points.{side as sideDef, heldTo, levelOf, levelAt, qamPoint, decide as decideDef, radius};
 
 // The levels of 16-QAM, (2 i - 3) / sqrt(10), from the lowest up.

@@ -9,8 +9,9 @@ use lib.ListN.{getD}
 use lib.Dec.{lit<}
 use borrow.Author.Tests.{lt-ltb, le-ltb, ne-eqb}
 use lib.Ieee.{Float, nan, inf, fin, ofBits, ofFields, odd, up, down, neg, lt, le, eq, below, level}
-use Rattle.definition.specs.declared.C32.{C32}
-use Rattle.definition.specs.Floats.{f32, zero32, abs, complex, zeroC}
+use Rattle.types.specs.declared.C32.{C32}
+use Rattle.types.specs.Bits.{f32, zero32}
+use Rattle.definition.specs.Floats.{abs, complex, zeroC}
 use Rattle.definition.specs.Points.{octant, octantPoint, points8}
 use Rattle.costas.proofs.Sizes.{size, size-lt}
 

@@ -8,7 +8,8 @@ use lib.IntN.{ℤ}
 use lib.Dec.{T, ltb, eqb}
 use borrow.Author.Tests.{le-ltb, ltb-true, ltb-false, eqb-true, eqb-false}
 use lib.Ieee.{Float, nan, inf, fin, ofBits, ofFields, odd, up, down, neg, lt, le, eq, below, level}
-use Rattle.definition.specs.Floats.{tiny, zero32, abs, flush, clip}
+use Rattle.types.specs.Bits.{zero32}
+use Rattle.definition.specs.Floats.{tiny, abs, flush, clip}
 
 abbrev pub size : Float → Float
 size v = cond (lt v zero32) (neg v) v

@@ -1,12 +1,13 @@
 // The pieces of the carrier loop: gains, turns, the 8-PSK decision, the integrator and the phase step.
-use definition::C32;
-use definition::CosSin;
-use definition::LoopGains;
+use types::C32;
+use types::CosSin;
+use types::LoopGains;
 ghost use mathlib.Core.Path.{_≡_};
 ghost use mathlib.Core.Bool.{cond};
 ghost use Prim.Native.Nat.{_*_, _%_, _^_, _≤_, _<_};
 ghost use lib.Ieee.{lt, neg};
-ghost use Rattle.definition.specs.Floats.{zero32, flush, clip};
+ghost use Rattle.types.specs.Bits.{zero32};
+ghost use Rattle.definition.specs.Floats.{flush, clip};
 ghost use Rattle.definition.specs.Gains.{loopGains};
 ghost use Rattle.definition.specs.Phase.{phaseStep};
 ghost use Rattle.definition.specs.Points.{octant as octantDef, octantPoint};

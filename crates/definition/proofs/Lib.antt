@@ -1,17 +1,3 @@
--- Laws about the definition, for the theorems and for the code.
-pub mod Every
-pub mod Parts
-pub mod Bounds
-pub mod Gains
-pub mod Accept
-pub mod Kept
-pub mod Exits
-pub mod Runs
-pub mod Padding
-pub mod Verdicts
+-- The tables of rows, computed.
 pub mod Computed
-pub mod Vectors
 pub mod Tables
-pub mod Starts
-pub mod Mapped
-pub mod Running

@@ -7,18 +7,18 @@ use mathlib.Core.List.{List, [], _∷_}
 use lib.ListN.{length}
 use lib.Dec.{eqb}
 use lib.Ieee.{Float, isNan}
-use Rattle.definition.specs.declared.EqMode.{EqMode}
-use Rattle.definition.specs.declared.EqMode.the-variants.{Cma, Decision}
-use Rattle.definition.specs.declared.EqParams.{EqParams}
-use Rattle.definition.specs.declared.EqualizeState.{EqualizeState}
-use Rattle.definition.specs.declared.Fresh.{Fresh}
-use Rattle.definition.specs.declared.Fresh.the-variants.{Made, NotMade}
-use Rattle.definition.specs.declared.Error.{Error}
-use Rattle.definition.specs.declared.Error.the-variants.{Odd, Feedback, Taps, Window, MuCma, MuDd, Bandwidth, Record, Output, Marks}
-use Rattle.definition.specs.declared.Outcome.{Outcome}
-use Rattle.definition.specs.declared.Outcome.the-variants.{Served, Refused}
+use Rattle.types.specs.declared.EqParams.{EqParams}
+use Rattle.types.specs.declared.EqualizeState.{EqualizeState}
+use Rattle.types.specs.declared.Fresh.{Fresh}
+use Rattle.types.specs.declared.Fresh.the-variants.{Made, NotMade}
+use Rattle.types.specs.declared.Error.{Error}
+use Rattle.types.specs.declared.Error.the-variants.{Odd, Feedback, Taps, Window, MuCma, MuDd, Bandwidth, Record, Output, Marks}
+use Rattle.types.specs.declared.Outcome.{Outcome}
+use Rattle.types.specs.declared.Outcome.the-variants.{Served, Refused}
+use Rattle.types.specs.Start.{startState}
 use Rattle.definition.specs.Refusals.{replyOf, freshReply, Test, test, firstOf}
-use Rattle.definition.specs.Floats.{zero32, one32, maxFreq, flush, clip}
+use Rattle.types.specs.Bits.{zero32}
+use Rattle.definition.specs.Floats.{maxFreq, flush, clip}
 use Rattle.definition.specs.Slices.{samplesOf, zeros, startWeights}
 use Rattle.definition.specs.Gains.{phaseDamping, gainKp, gainKi}
 use Rattle.definition.specs.Sample.{Equalizer, allTaps, withRunning}
@@ -29,16 +29,7 @@ use Rattle.definition.specs.Run.{Run, runDef, floatsOf, marksOf}
 abbrev pub even : ℕ → Bool
 even n = eqb (n % 2) 0
 
--- ---- the start: what `new` and `reset` set
-
--- mode Decision if `cma_symbols` is 0, else Cma
-unfoldable pub startMode : ℕ → EqMode
-startMode total = cond (eqb total 0) Decision Cma
-
--- count 0, `mse` 1, phase 0, freq 0
-unfoldable pub startState : EqParams → Float → Float → EqualizeState
-startState p kp ki =
-    record { params = p; kp = kp; ki = ki; mode = startMode (p .«cma_symbols»); count = 0; mse = one32; phase = 0; freq = zero32 }
+-- ---- the start: what `new` and `reset` set; `startState` (types) is the record then: count 0, `mse` 1, phase 0, freq 0
 
 -- all weights 0 but 1 at index forward taps / 2, window 0; n is the number of all taps
 unfoldable pub startOver : EqualizeState → ℕ → Equalizer

@@ -5,8 +5,9 @@ use mathlib.Core.List.{List, [], _∷_}
 use lib.Dec.{eqb, ltb}
 use lib.ListN.{getD}
 use lib.Ieee.{Float, nan, inf, fin, Format, binary32, binary64, up, down, toBits, size, round, neg}
-use Rattle.definition.specs.declared.Qam.the-variants as qam
-use Rattle.definition.specs.Floats.{tiny, nlmsEps, mseAlpha, maxFreq, muMin, bwMin, bwMax, zero32, one32, f32}
+use Rattle.types.specs.declared.Qam.the-variants as qam
+use Rattle.types.specs.Bits.{zero32, one32, f32}
+use Rattle.definition.specs.Floats.{tiny, nlmsEps, mseAlpha, maxFreq, muMin, bwMin, bwMax}
 use Rattle.definition.specs.Gains.{phaseDamping, tau, one64, two64, four64}
 use Rattle.definition.specs.Points.{A, C8, S8, halfRootE, halfCount, levels}
 

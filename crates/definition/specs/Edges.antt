@@ -3,21 +3,22 @@
 use Prim.Native.Nat.{ℕ, _+_, _*_}
 use mathlib.Core.Bool.{Bool, true, false, _&&_}
 use mathlib.Core.List.{List, [], _∷_}
-use lib.ListN.{replicate}
+use lib.ListN.{replicate, getD}
 use lib.Dec.{eqb}
 use lib.Ieee.{Float, nan, inf, binary32, binary64, toBits}
 use lib.Ieee.Scale.{finite}
-use Rattle.definition.specs.declared.C32.{C32}
-use Rattle.definition.specs.declared.CosSin.{CosSin}
-use Rattle.definition.specs.declared.EqMode.the-variants.{Cma, Decision}
-use Rattle.definition.specs.declared.EqConstellation.{EqConstellation}
-use Rattle.definition.specs.declared.EqConstellation.the-variants.{Bpsk, Qpsk, Psk8, Qam16, Qam64}
-use Rattle.definition.specs.declared.Qam.{Qam}
-use Rattle.definition.specs.declared.Qam.the-variants as qam
-use Rattle.definition.specs.declared.Update.{Update}
-use Rattle.definition.specs.declared.Update.the-variants.{Step, Hold}
-use Rattle.definition.specs.Floats.{f32, f64, flush, clip, narrow, complex, finiteC}
-use Rattle.definition.specs.Slices.{shifted, dotComplex, power, startWeights}
+use Rattle.types.specs.declared.C32.{C32}
+use Rattle.types.specs.declared.CosSin.{CosSin}
+use Rattle.types.specs.declared.EqMode.the-variants.{Cma, Decision}
+use Rattle.types.specs.declared.EqConstellation.{EqConstellation}
+use Rattle.types.specs.declared.EqConstellation.the-variants.{Bpsk, Qpsk, Psk8, Qam16, Qam64}
+use Rattle.types.specs.declared.Qam.{Qam}
+use Rattle.types.specs.declared.Qam.the-variants as qam
+use Rattle.types.specs.declared.Update.{Update}
+use Rattle.types.specs.declared.Update.the-variants.{Step, Hold}
+use Rattle.types.specs.Bits.{f32, f64}
+use Rattle.definition.specs.Floats.{flush, clip, narrow, complex, finiteC}
+use Rattle.definition.specs.Slices.{sum8, shifted, dotComplex, power, startWeights}
 use Rattle.definition.specs.Gains.{phaseDamping, gainKp, gainKi}
 use Rattle.definition.specs.Phase.{cosSin, interpPair, phaseStep}
 use Rattle.definition.specs.Points.{octant, levelOf, decide}
@@ -164,6 +165,8 @@ stepRows =
     -- step 2: three taps, (1 + 2i)·(3 - i) + 0 + (-0)·.. ; the shorter slice counts
     ∷ bitsC (dotComplex (f32 0x3f80_0000 ∷ f32 0x4000_0000 ∷ []) (f32 0x4040_0000 ∷ f32 0xbf80_0000 ∷ f32 0x3f80_0000 ∷ f32 0x3f80_0000 ∷ [])) 0x40a0_0000 0x40a0_0000
     ∷ bitsC (dotComplex [] (f32 0x3f80_0000 ∷ [])) 0 0
+    -- 2^24 and -2^24 are partials 0 and 4, which meet first, so that the 1 beside them is not lost
+    ∷ bits (sum8 (λ i. getD (f32 0x4b80_0000 ∷ f32 0x3f80_0000 ∷ f32 0 ∷ f32 0 ∷ f32 0xcb80_0000 ∷ []) i (f32 0)) 8) 0x3f80_0000
     -- step 4: mse moves by 0.01, is flushed, and stays where pe is not finite
     ∷ bits (mseAfter (f32 0x3f80_0000) (f32 0)) 0x3f7d_70a4 ∷ bits (mseAfter (f32 0x0da2_4260) (f32 0)) 0 ∷ bits (mseAfter (f32 0x3f80_0000) (inf false)) 0x3f80_0000
     ∷ bits (mseAfter (f32 0x3f80_0000) nan) 0x3f80_0000 ∷ bits (mseAfter nan (f32 0)) 0x7fc0_0000
@@ -180,6 +183,7 @@ stepRows =
     ∷ bits (power (f32 0x1a00_0000 ∷ f32 0 ∷ []) 1) 0 ∷ bits (power (f32 0x3f80_0000 ∷ f32 0x3f80_0000 ∷ f32 0x4000_0000 ∷ f32 0 ∷ []) 2) 0x40c0_0000
     -- a weight that is not finite resets them all: 1 at 3 / 2; a tiny one is flushed
     ∷ same (bitsOf (adapted (Step (f32 0x7f00_0000) (f32 0)) 3 3 (replicate 6 (f32 0x3f80_0000)) (replicate 6 (f32 0x4080_0000)))) (0 ∷ 0 ∷ 0x3f80_0000 ∷ 0 ∷ 0 ∷ 0 ∷ [])
+    ∷ same (bitsOf (adapted (Step (f32 0x7f00_0000) (f32 0)) 5 5 (replicate 10 (f32 0x3f80_0000)) (replicate 10 (f32 0x4080_0000)))) (0 ∷ 0 ∷ 0 ∷ 0 ∷ 0x3f80_0000 ∷ 0 ∷ 0 ∷ 0 ∷ 0 ∷ 0 ∷ [])
     ∷ same (bitsOf (adapted (Step (f32 0x0d80_0000) (f32 0)) 1 1 (f32 0 ∷ f32 0x3f80_0000 ∷ []) (f32 0x3f80_0000 ∷ f32 0 ∷ []))) (0 ∷ 0x3f80_0000 ∷ [])
     ∷ same (bitsOf (adapted Hold 1 1 (f32 0x3f80_0000 ∷ f32 0 ∷ []) (f32 0x3f80_0000 ∷ f32 0 ∷ []))) (0x3f80_0000 ∷ 0 ∷ [])
     -- w - g·conj(h) with g = 1 + 2i, h = 3 + 5i, w = 0: g·conj(h) = 13 + i

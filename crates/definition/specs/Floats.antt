@@ -2,11 +2,12 @@
 -- A float is `nan`, `inf sign` or `fin sign m e`, the number ±m·2^e in lowest terms. There is one NaN, so two floats are equal (`≡`) exactly when
 -- they have the same bits, any two NaNs counting as equal. So a promise that gives a float back gives it back by its bits, but for the sign and
 -- payload of a NaN, which no promise speaks of: an `mse` that came as a NaN, and what a refused call leaves of NaNs in a record or a slice.
-use Prim.Native.Nat.{ℕ, _*_}
+use Prim.Native.Nat.{_*_}
 use mathlib.Core.Bool.{Bool, true, false, cond, _&&_}
-use lib.Ieee.{Float, nan, inf, fin, binary32, binary64, ofBits, add, sub, mul, div, neg, lt, up, down, round}
+use lib.Ieee.{Float, nan, inf, fin, binary32, binary64, add, sub, mul, div, neg, lt, up, down, round}
 use lib.Ieee.Scale.{finite}
-use Rattle.definition.specs.declared.C32.{C32}
+use Rattle.types.specs.declared.C32.{C32}
+use Rattle.types.specs.Bits.{f32, f64, zero32}
 
 infixl 65 _+f_
 infixl 65 _-f_
@@ -38,20 +39,7 @@ a *d b = mul binary64 a b
 abbrev pub _/d_ : Float → Float → Float
 a /d b = div binary64 a b
 
--- ---- constants: the nearest f32 (or f64), by bits; Constants.antt holds each to its decimal
-
-abbrev pub f32 : ℕ → Float
-f32 bits = ofBits binary32 bits
-
-abbrev pub f64 : ℕ → Float
-f64 bits = ofBits binary64 bits
-
--- +0, 1
-abbrev pub zero32 : Float
-zero32 = f32 0
-
-abbrev pub one32 : Float
-one32 = f32 0x3f80_0000
+-- ---- constants: the nearest f32 (or f64), by bits (types: f32, f64, zero32, one32); Constants.antt holds each to its decimal
 
 -- 1e-30, below which flush gives +0
 abbrev pub tiny : Float

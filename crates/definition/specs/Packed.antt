@@ -5,9 +5,9 @@ use mathlib.Core.Bool.{true}
 use mathlib.Core.List.{List}
 use lib.ListN.{length}
 use lib.Ieee.{Float}
-use Rattle.definition.specs.declared.EqualizeState.{EqualizeState}
-use Rattle.definition.specs.declared.Equalized.{Equalized}
-use Rattle.definition.specs.declared.Fresh.{Fresh}
+use Rattle.types.specs.declared.EqualizeState.{EqualizeState}
+use Rattle.types.specs.declared.Equalized.{Equalized}
+use Rattle.types.specs.declared.Fresh.{Fresh}
 use Rattle.definition.specs.Sample.{Equalizer}
 use Rattle.definition.specs.Rules.{acceptedDef}
 use Rattle.definition.specs.Run.{Run, floatsOf, marksOf}

@@ -5,8 +5,9 @@ use lib.IntN.{ℤ, pos, negsuc}
 use lib.Dec.{eqb}
 use lib.Ieee.{Float, nan, inf, fin, binary32, up, down, minus, ofInt}
 use Rattle.tables.specs.Table.{cosAt}
-use Rattle.definition.specs.declared.CosSin.{CosSin}
-use Rattle.definition.specs.Floats.{_+f_, _-f_, _*f_, f32, zero32, one32}
+use Rattle.types.specs.declared.CosSin.{CosSin}
+use Rattle.types.specs.Bits.{f32, zero32, one32}
+use Rattle.definition.specs.Floats.{_+f_, _-f_, _*f_}
 
 -- ---- cosine and sine
 

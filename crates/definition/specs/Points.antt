@@ -4,12 +4,13 @@ use mathlib.Core.Bool.{Bool, true, false, cond, _&&_}
 use mathlib.Core.List.{List, [], _∷_, _++_, map}
 use lib.ListN.{length, getD}
 use lib.Ieee.{Float, nan, inf, fin, binary64, neg, lt, le, up, down, round}
-use Rattle.definition.specs.declared.C32.{C32}
-use Rattle.definition.specs.declared.Qam.{Qam}
-use Rattle.definition.specs.declared.Qam.the-variants as qam
-use Rattle.definition.specs.declared.EqConstellation.{EqConstellation}
-use Rattle.definition.specs.declared.EqConstellation.the-variants.{Bpsk, Qpsk, Psk8, Qam16, Qam64}
-use Rattle.definition.specs.Floats.{_+f_, _*f_, f32, zero32, one32, abs, narrow, complex, zeroC}
+use Rattle.types.specs.declared.C32.{C32}
+use Rattle.types.specs.declared.Qam.{Qam}
+use Rattle.types.specs.declared.Qam.the-variants as qam
+use Rattle.types.specs.declared.EqConstellation.{EqConstellation}
+use Rattle.types.specs.declared.EqConstellation.the-variants.{Bpsk, Qpsk, Psk8, Qam16, Qam64}
+use Rattle.types.specs.Bits.{f32, zero32, one32}
+use Rattle.definition.specs.Floats.{_+f_, _*f_, abs, narrow, complex, zeroC}
 
 -- ---- BPSK and QPSK: by v < 0
 

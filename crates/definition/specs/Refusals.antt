@@ -1,27 +1,15 @@
--- The refusals: the number of each, the two lengths that 4, 9 and 10 return (expected, then got), and the first test that fails.
+-- The refusals, whose numbers are `errorNumber` (types): the two lengths that 4, 9 and 10 return (expected, then got), and the first test that fails.
 use Prim.Native.Nat.{ℕ}
 use mathlib.Core.Bool.{Bool, true, false, cond}
 use mathlib.Core.List.{List, [], _∷_}
-use Rattle.definition.specs.declared.Error.{Error}
-use Rattle.definition.specs.declared.Error.the-variants.{Odd, Feedback, Taps, Window, MuCma, MuDd, Bandwidth, Record, Output, Marks}
-use Rattle.definition.specs.declared.Outcome.{Outcome}
-use Rattle.definition.specs.declared.Outcome.the-variants.{Served, Refused}
-use Rattle.definition.specs.declared.EqualizeState.{EqualizeState}
-use Rattle.definition.specs.declared.Fresh.{Fresh}
-use Rattle.definition.specs.declared.Fresh.the-variants.{Made, NotMade}
-
--- the table of document 01: cause, number
-abbrev pub errorNumber : Error → ℕ
-errorNumber Odd = 1
-errorNumber Feedback = 2
-errorNumber Taps = 3
-errorNumber (Window expected got) = 4
-errorNumber MuCma = 5
-errorNumber MuDd = 6
-errorNumber Bandwidth = 7
-errorNumber Record = 8
-errorNumber (Output expected got) = 9
-errorNumber (Marks expected got) = 10
+use Rattle.types.specs.declared.Error.{Error}
+use Rattle.types.specs.declared.Error.the-variants.{Odd, Feedback, Taps, Window, MuCma, MuDd, Bandwidth, Record, Output, Marks}
+use Rattle.types.specs.declared.Outcome.{Outcome}
+use Rattle.types.specs.declared.Outcome.the-variants.{Served, Refused}
+use Rattle.types.specs.declared.EqualizeState.{EqualizeState}
+use Rattle.types.specs.declared.Fresh.{Fresh}
+use Rattle.types.specs.declared.Fresh.the-variants.{Made, NotMade}
+use Rattle.types.specs.Numbers.{errorNumber}
 
 -- the table of document 01: what is returned beside the number
 abbrev pub errorValues : Error → List ℕ

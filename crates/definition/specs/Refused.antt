@@ -6,14 +6,14 @@ use mathlib.Core.List.{List, [], _∷_, _++_}
 use lib.ListN.{replicate, set}
 use lib.Dec.{eqb}
 use lib.Ieee.{Float, nan, inf}
-use Rattle.definition.specs.declared.EqMode.{EqMode}
-use Rattle.definition.specs.declared.EqMode.the-variants.{Cma, Decision}
-use Rattle.definition.specs.declared.EqParams.{EqParams}
-use Rattle.definition.specs.declared.EqualizeState.{EqualizeState}
-use Rattle.definition.specs.declared.Fresh.{Fresh}
-use Rattle.definition.specs.declared.Fresh.the-variants.{Made, NotMade}
-use Rattle.definition.specs.declared.EqConstellation.the-variants.{Qpsk}
-use Rattle.definition.specs.Floats.{f32, f64, zero32, one32}
+use Rattle.types.specs.declared.EqMode.{EqMode}
+use Rattle.types.specs.declared.EqMode.the-variants.{Cma, Decision}
+use Rattle.types.specs.declared.EqParams.{EqParams}
+use Rattle.types.specs.declared.EqualizeState.{EqualizeState}
+use Rattle.types.specs.declared.Fresh.{Fresh}
+use Rattle.types.specs.declared.Fresh.the-variants.{Made, NotMade}
+use Rattle.types.specs.declared.EqConstellation.the-variants.{Qpsk}
+use Rattle.types.specs.Bits.{f32, f64, zero32, one32}
 use Rattle.definition.specs.Sample.{Equalizer, withRunning}
 use Rattle.definition.specs.Calls.{NewAnswer, newDef, ResetAnswer, resetDef, SetAnswer, setMuCmaDef, setMuDdDef, setFrequencyDef, Answer, equalizeDef}
 use Rattle.definition.specs.Rows.{same, bitsOf, stateBits, sameEqualizer, settings, settingsWith}
@@ -200,6 +200,20 @@ setterRows =
     ∷ frequencyIs (broken .state) nan 0
     ∷ []
 
+-- ---- one sample whole: a blank whose sum is not finite either; a forward window of zeros behind which the feedback window holds something
+
+unfoldable huge : Equalizer
+huge = around good (eight 0x7f00_0000) (eight 0x7f00_0000)
+
+unfoldable silent : Equalizer
+silent = around (recordOf (settings 1 5) Decision 5 0x3c07_6966 0x3967_1b0a 0) (eight 0x3f00_0000) (replicate 6 zero32 ++ replicate 2 (f32 0x3e80_0000))
+
+unfoldable sampleRows : List Bool
+sampleRows =
+    same (equalizeDef huge (nan ∷ zero32 ∷ []) two (marks 1) .marks) (1 ∷ [])
+    ∷ (let a = equalizeDef silent (zero32 ∷ zero32 ∷ []) two (marks 1) in same (bitsOf (a .equalizer .weights)) (replicate 8 0x3f00_0000) && same (bitsOf (a .equalizer .window)) (replicate 8 0))
+    ∷ []
+
 -- ---- equalizing tests 1, 8, 9, 10
 
 unfoldable callRows : List Bool
@@ -267,5 +281,5 @@ callRows =
 
 -- the table, whole
 unfoldable pub refusalsPass : Bool
-unfolding newRefused madeBits newServed resetIs callRefused callReplies setterIs frequencyIs recordOf good around eight start startWith weightsWith windowWith longer four six two marks broken restarted all newRows resetRows setterRows callRows
-refusalsPass = all newRows && all resetRows && all setterRows && all callRows
+unfolding newRefused madeBits newServed resetIs callRefused callReplies setterIs frequencyIs recordOf good around eight start startWith weightsWith windowWith longer four six two marks broken restarted all newRows resetRows setterRows huge silent sampleRows callRows
+refusalsPass = all newRows && all resetRows && all setterRows && all sampleRows && all callRows

@@ -4,14 +4,12 @@ use mathlib.Core.Bool.{Bool, true, false, _&&_}
 use mathlib.Core.List.{List, [], _∷_, _++_, map}
 use lib.Dec.{eqb}
 use lib.Ieee.{Float, binary32, binary64, toBits}
-use Rattle.definition.specs.declared.C32.{C32}
-use Rattle.definition.specs.declared.EqMode.{EqMode}
-use Rattle.definition.specs.declared.EqMode.the-variants.{Cma, Decision}
-use Rattle.definition.specs.declared.EqConstellation.{EqConstellation}
-use Rattle.definition.specs.declared.EqConstellation.the-variants.{Bpsk, Qpsk, Psk8, Qam16, Qam64}
-use Rattle.definition.specs.declared.EqParams.{EqParams}
-use Rattle.definition.specs.declared.EqualizeState.{EqualizeState}
-use Rattle.definition.specs.Floats.{f32, f64}
+use Rattle.types.specs.declared.C32.{C32}
+use Rattle.types.specs.declared.EqConstellation.the-variants.{Qpsk}
+use Rattle.types.specs.declared.EqParams.{EqParams}
+use Rattle.types.specs.declared.EqualizeState.{EqualizeState}
+use Rattle.types.specs.Bits.{f32, f64}
+use Rattle.types.specs.Numbers.{modeNumber, constellationNumber}
 use Rattle.definition.specs.Sample.{Equalizer}
 
 abbrev pub same : List ℕ → List ℕ → Bool
@@ -22,17 +20,6 @@ same (a ∷ k) (b ∷ l) = eqb a b && same k l
 
 unfoldable pub bitsOf : List Float → List ℕ
 bitsOf l = map (toBits binary32) l
-
-abbrev pub modeNumber : EqMode → ℕ
-modeNumber Cma = 0
-modeNumber Decision = 1
-
-abbrev pub constellationNumber : EqConstellation → ℕ
-constellationNumber Bpsk = 0
-constellationNumber Qpsk = 1
-constellationNumber Psk8 = 2
-constellationNumber Qam16 = 3
-constellationNumber Qam64 = 4
 
 -- every field of the record, in its order
 unfoldable pub stateBits : EqualizeState → List ℕ

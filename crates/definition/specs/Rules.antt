@@ -7,11 +7,12 @@ use lib.ListN.{length}
 use lib.Dec.{eqb, leb, ltb}
 use lib.Ieee.{Float, binary32, toBits, eq, le}
 use lib.Ieee.Scale.{finite}
-use Rattle.definition.specs.declared.EqMode.{EqMode}
-use Rattle.definition.specs.declared.EqMode.the-variants.{Cma, Decision}
-use Rattle.definition.specs.declared.EqParams.{EqParams}
-use Rattle.definition.specs.declared.EqualizeState.{EqualizeState}
-use Rattle.definition.specs.Floats.{f64, one32, tiny, maxFreq, muMin, bwMin, bwMax, abs}
+use Rattle.types.specs.declared.EqMode.{EqMode}
+use Rattle.types.specs.declared.EqMode.the-variants.{Cma, Decision}
+use Rattle.types.specs.declared.EqParams.{EqParams}
+use Rattle.types.specs.declared.EqualizeState.{EqualizeState}
+use Rattle.types.specs.Bits.{f64, one32}
+use Rattle.definition.specs.Floats.{tiny, maxFreq, muMin, bwMin, bwMax, abs}
 use Rattle.definition.specs.Slices.{complexLength, whole, every}
 use Rattle.definition.specs.Gains.{phaseDamping, gainKp, gainKi}
 use Rattle.definition.specs.Sample.{Equalizer, allTaps, feedback, forward, neverSwitch}

@@ -7,16 +7,17 @@ use lib.ListN.{take, drop}
 use lib.Dec.{eqb, ltb}
 use lib.Ieee.{Float, eq}
 use lib.Ieee.Scale.{finite}
-use Rattle.definition.specs.declared.C32.{C32}
-use Rattle.definition.specs.declared.CosSin.{CosSin}
-use Rattle.definition.specs.declared.EqMode.{EqMode}
-use Rattle.definition.specs.declared.EqMode.the-variants.{Cma, Decision}
-use Rattle.definition.specs.declared.EqConstellation.{EqConstellation}
-use Rattle.definition.specs.declared.EqParams.{EqParams}
-use Rattle.definition.specs.declared.EqualizeState.{EqualizeState}
-use Rattle.definition.specs.declared.Update.{Update}
-use Rattle.definition.specs.declared.Update.the-variants.{Step, Hold}
-use Rattle.definition.specs.Floats.{_+f_, _-f_, _*f_, _/f_, zero32, one32, nlmsEps, mseAlpha, maxFreq, flush, clip, complex, zeroC, finiteC, norm, minusC, scaledC, clipC}
+use Rattle.types.specs.declared.C32.{C32}
+use Rattle.types.specs.declared.CosSin.{CosSin}
+use Rattle.types.specs.declared.EqMode.{EqMode}
+use Rattle.types.specs.declared.EqMode.the-variants.{Cma, Decision}
+use Rattle.types.specs.declared.EqConstellation.{EqConstellation}
+use Rattle.types.specs.declared.EqParams.{EqParams}
+use Rattle.types.specs.declared.EqualizeState.{EqualizeState}
+use Rattle.types.specs.declared.Update.{Update}
+use Rattle.types.specs.declared.Update.the-variants.{Step, Hold}
+use Rattle.types.specs.Bits.{zero32, one32}
+use Rattle.definition.specs.Floats.{_+f_, _-f_, _*f_, _/f_, nlmsEps, mseAlpha, maxFreq, flush, clip, complex, zeroC, finiteC, norm, minusC, scaledC, clipC}
 use Rattle.definition.specs.Slices.{complexLength, every, shifted, filterSum, power, updated, startWeights}
 use Rattle.definition.specs.Phase.{cosSin, phaseStep}
 use Rattle.definition.specs.Points.{decide, radius}

@@ -5,8 +5,9 @@ use mathlib.Core.List.{List, [], _∷_, _++_}
 use lib.ListN.{length, getD, take, drop, set, replicate}
 use lib.Dec.{eqb}
 use lib.Ieee.{Float, nan}
-use Rattle.definition.specs.declared.C32.{C32}
-use Rattle.definition.specs.Floats.{_+f_, _-f_, _*f_, zero32, one32, flush, norm, complex}
+use Rattle.types.specs.declared.C32.{C32}
+use Rattle.types.specs.Bits.{zero32, one32}
+use Rattle.definition.specs.Floats.{_+f_, _-f_, _*f_, flush, norm, complex}
 
 abbrev pub reAt : List Float → ℕ → Float
 reAt x i = getD x (2 * i) nan

@@ -1,6 +1,6 @@
 -- Turning a complex number by a phase, whose cosine and sine are t.c and t.s.
-use Rattle.definition.specs.declared.C32.{C32}
-use Rattle.definition.specs.declared.CosSin.{CosSin}
+use Rattle.types.specs.declared.C32.{C32}
+use Rattle.types.specs.declared.CosSin.{CosSin}
 use Rattle.definition.specs.Floats.{_+f_, _-f_, _*f_, complex}
 
 -- z = (y.re·c + y.im·s, y.im·c − y.re·s)

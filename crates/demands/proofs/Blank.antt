@@ -11,19 +11,20 @@ use lib.Dec.{T, eqb, ltb, eqb→eq, ltb→lt}
 use borrow.Author.Tests.{eq-eqb, ne-eqb, eqb-true}
 use lib.Ieee.{Float}
 use lib.Ieee.Fits.{and-l, and-r}
-use Rattle.definition.specs.declared.C32.{C32}
-use Rattle.definition.specs.declared.EqMode.{EqMode}
-use Rattle.definition.specs.declared.EqMode.the-variants.{Cma, Decision}
-use Rattle.definition.specs.declared.EqParams.{EqParams}
-use Rattle.definition.specs.declared.EqualizeState.{EqualizeState}
-use Rattle.definition.specs.Floats.{zero32, zeroC, finiteC}
+use Rattle.types.specs.declared.C32.{C32}
+use Rattle.types.specs.declared.EqMode.{EqMode}
+use Rattle.types.specs.declared.EqMode.the-variants.{Cma, Decision}
+use Rattle.types.specs.declared.EqParams.{EqParams}
+use Rattle.types.specs.declared.EqualizeState.{EqualizeState}
+use Rattle.types.specs.Bits.{zero32}
+use Rattle.definition.specs.Floats.{zeroC, finiteC}
 use Rattle.definition.specs.Slices.{shifted, zeros}
 use Rattle.definition.specs.Sample.{Equalizer, Did, Out, allTaps, feedback, forward, neverSwitch, sanitized, step1, step3, passedBy, fedIn, withMode, advanceIn, advance, step8, sampleDef}
 use Rattle.definition.specs.Rules.{countFits, ruleR4, acceptedDef, Shape}
 use Rattle.definition.specs.Run.{Run, ahead, runDef}
-use Rattle.definition.proofs.Accept.{Accepted, accepted-parts, shape}
-use Rattle.definition.proofs.Kept.{advance-keeps, sample-accepted}
-use Rattle.definition.proofs.Verdicts.{both}
+use Rattle.definition_laws.proofs.Accept.{Accepted, accepted-parts, shape}
+use Rattle.definition_laws.proofs.Kept.{advance-keeps, sample-accepted}
+use Rattle.definition_laws.proofs.Verdicts.{both}
 use Rattle.demands.specs.Blanks.{allBlank, Blanks, blankOut, countAfter, modeAt, windowAfter, AfterBlanks, BlankRun, BlanksClaim, ClearClaim}
 
 -- ---- one blank

@@ -4,15 +4,15 @@ use mathlib.Core.Path.{_≡_, refl, sym, _∙_, ap, subst}
 use mathlib.Core.Bool.{true}
 use mathlib.Core.List.{List, [], _∷_, _++_, append-assoc}
 use lib.Ieee.{Float}
-use Rattle.definition.specs.declared.C32.{C32}
-use Rattle.definition.specs.declared.Outcome.{Outcome}
-use Rattle.definition.specs.declared.Outcome.the-variants.{Served, Refused}
+use Rattle.types.specs.declared.C32.{C32}
+use Rattle.types.specs.declared.Outcome.{Outcome}
+use Rattle.types.specs.declared.Outcome.the-variants.{Served, Refused}
 use Rattle.definition.specs.Slices.{samplesOf}
 use Rattle.definition.specs.Sample.{Equalizer, Out}
 use Rattle.definition.specs.Rules.{rules}
 use Rattle.definition.specs.Run.{Run, ahead, runDef, floatsOf, marksOf}
 use Rattle.definition.specs.Calls.{lengthsOf, verdictDef, Answer, answerBy, equalizeDef}
-use Rattle.definition.proofs.Runs.{run-append, floats-append, marks-append}
+use Rattle.definition_laws.proofs.Runs.{run-append, floats-append, marks-append}
 use Rattle.demands.specs.Traces.{Path, plain, quick, joint, Call, callDef, Promised, Observed, Follow, none, next, ifServed, samples, symbols, marks, left}
 use Rattle.demands.specs.Cut.{OneRun, CallsAreOneRun, Same, AnyCut}
 

@@ -9,16 +9,17 @@ use lib.ListN.{length, take, drop, replicate, length-replicate}
 use lib.Seq.{length-take-le, take-at, take-all}
 use lib.Dec.{T}
 use lib.Ieee.{Float}
-use Rattle.definition.specs.declared.C32.{C32}
-use Rattle.definition.specs.declared.EqualizeState.{EqualizeState}
-use Rattle.definition.specs.Floats.{zero32, finiteC}
+use Rattle.types.specs.declared.C32.{C32}
+use Rattle.types.specs.declared.EqualizeState.{EqualizeState}
+use Rattle.types.specs.Bits.{zero32}
+use Rattle.definition.specs.Floats.{finiteC}
 use Rattle.definition.specs.Slices.{zeros}
 use Rattle.definition.specs.Sample.{Equalizer, Out, allTaps, feedback, forward, blankMark, withMode}
 use Rattle.definition.specs.Rules.{acceptedDef}
 use Rattle.definition.specs.Run.{Run, ahead, runDef, floatsOf, marksOf}
-use Rattle.definition.proofs.Accept.{accepted-parts, shape}
-use Rattle.definition.proofs.Runs.{run-append, floats-append, marks-append}
-use Rattle.definition.proofs.Verdicts.{both, and-true}
+use Rattle.definition_laws.proofs.Accept.{accepted-parts, shape}
+use Rattle.definition_laws.proofs.Runs.{run-append, floats-append, marks-append}
+use Rattle.definition_laws.proofs.Verdicts.{both, and-true}
 use Rattle.demands.specs.Traces.{Observed, Follow, samples, symbols, marks, left}
 use Rattle.demands.specs.Cut.{OneRun, Same}
 use Rattle.demands.specs.Blanks.{allBlank, Blanks, blankOut, countAfter, modeAt, windowAfter, AfterBlanks, BlankRun}

@@ -10,27 +10,29 @@ use borrow.Author.Tests.{lt-ltb, eq-eqb, eqb-true, eqb-false}
 use lib.Ieee.{Float, nan, inf, fin, binary32, toBits, isNan}
 use lib.Ieee.Fits.{eq→eqb}
 use lib.Ieee.Scale.{finite}
-use Rattle.definition.specs.declared.EqMode.{EqMode}
-use Rattle.definition.specs.declared.EqMode.the-variants.{Cma, Decision}
-use Rattle.definition.specs.declared.EqParams.{EqParams}
-use Rattle.definition.specs.declared.EqualizeState.{EqualizeState}
-use Rattle.definition.specs.declared.Error.{Error}
-use Rattle.definition.specs.declared.Error.the-variants.{MuCma, MuDd}
-use Rattle.definition.specs.declared.Fresh.{Fresh}
-use Rattle.definition.specs.declared.Fresh.the-variants.{Made, NotMade}
-use Rattle.definition.specs.declared.Outcome.{Outcome}
-use Rattle.definition.specs.declared.Outcome.the-variants.{Served, Refused}
-use Rattle.definition.specs.Floats.{zero32, maxFreq, flush, clip}
+use Rattle.types.specs.declared.EqMode.{EqMode}
+use Rattle.types.specs.declared.EqMode.the-variants.{Cma, Decision}
+use Rattle.types.specs.declared.EqParams.{EqParams}
+use Rattle.types.specs.declared.EqualizeState.{EqualizeState}
+use Rattle.types.specs.declared.Error.{Error}
+use Rattle.types.specs.declared.Error.the-variants.{MuCma, MuDd}
+use Rattle.types.specs.declared.Fresh.{Fresh}
+use Rattle.types.specs.declared.Fresh.the-variants.{Made, NotMade}
+use Rattle.types.specs.declared.Outcome.{Outcome}
+use Rattle.types.specs.declared.Outcome.the-variants.{Served, Refused}
+use Rattle.types.specs.Bits.{zero32}
+use Rattle.definition.specs.Floats.{maxFreq, flush, clip}
 use Rattle.definition.specs.Slices.{complexLength, whole, every, zeros, startWeights}
 use Rattle.definition.specs.Gains.{phaseDamping, gainKp, gainKi}
 use Rattle.definition.specs.Sample.{Equalizer, allTaps, feedback, forward, neverSwitch}
 use Rattle.definition.specs.Rules.{sameBits, tapsFit, feedbackFits, muFits, bwFits, freqFits, ruleR1, ruleR2, countFits, ruleR4, acceptedDef}
-use Rattle.definition.specs.Calls.{even, startMode, startState, startOver, freshState, newTests, newVerdict, NewAnswer, newBy, newDef, resetVerdict, ResetAnswer, resetBy, resetDef, withParams, withMus, SetAnswer, setAnswer, setMuCmaDef, setMuDdDef, heldFreq, setFrequencyDef}
-use Rattle.definition.proofs.Every.{every-replicate, length-start}
-use Rattle.definition.proofs.Parts.{is-true, finite-zero, zero-freq-fits, freq-fits}
-use Rattle.definition.proofs.Accept.{Accepted, accepted-parts, accepted-whole}
-use Rattle.definition.proofs.Kept.{start-fits}
-use Rattle.definition.proofs.Verdicts.{both, fine, refused-not, no-both}
+use Rattle.types.specs.Start.{startMode, startState}
+use Rattle.definition.specs.Calls.{even, startOver, freshState, newTests, newVerdict, NewAnswer, newBy, newDef, resetVerdict, ResetAnswer, resetBy, resetDef, withParams, withMus, SetAnswer, setAnswer, setMuCmaDef, setMuDdDef, heldFreq, setFrequencyDef}
+use Rattle.definition_laws.proofs.Every.{every-replicate, length-start}
+use Rattle.definition_laws.proofs.Parts.{is-true, finite-zero, zero-freq-fits, freq-fits}
+use Rattle.definition_laws.proofs.Accept.{Accepted, accepted-parts, accepted-whole}
+use Rattle.definition_laws.proofs.Kept.{start-fits}
+use Rattle.definition_laws.proofs.Verdicts.{both, fine, refused-not, no-both}
 use Rattle.demands.specs.Demand1.{withState, OthersAccepted, OthersRefused, SettersMove}
 
 of-true : {b : Bool} → b ≡ true → T b

@@ -7,11 +7,12 @@ use mathlib.Core.List.{List, [], _∷_, _++_}
 use lib.Dec.{lit≤}
 use lib.ListN.{replicate}
 use lib.Ieee.{Float, nan, inf}
-use Rattle.definition.specs.declared.C32.{C32}
-use Rattle.definition.specs.declared.EqMode.the-variants.{Cma}
-use Rattle.definition.specs.declared.EqConstellation.the-variants.{Qpsk}
-use Rattle.definition.specs.declared.EqualizeState.{EqualizeState}
-use Rattle.definition.specs.Floats.{f32, f64, zero32, complex}
+use Rattle.types.specs.declared.C32.{C32}
+use Rattle.types.specs.declared.EqMode.the-variants.{Cma}
+use Rattle.types.specs.declared.EqConstellation.the-variants.{Qpsk}
+use Rattle.types.specs.declared.EqualizeState.{EqualizeState}
+use Rattle.types.specs.Bits.{f32, f64, zero32}
+use Rattle.definition.specs.Floats.{complex}
 use Rattle.definition.specs.Sample.{Equalizer}
 use Rattle.definition.specs.Calls.{Answer}
 use Rattle.definition.proofs.Computed.{computed}

@@ -9,11 +9,11 @@ use native.Mathlib.Omega.{arith}
 use lib.ListN.{length, getD, take}
 use lib.Dec.{T, eqb}
 use lib.Ieee.{Float}
-use Rattle.definition.specs.declared.C32.{C32}
-use Rattle.definition.specs.declared.Error.{Error}
-use Rattle.definition.specs.declared.Error.the-variants.{Odd, Record, Output, Marks}
-use Rattle.definition.specs.declared.Outcome.{Outcome}
-use Rattle.definition.specs.declared.Outcome.the-variants.{Served, Refused}
+use Rattle.types.specs.declared.C32.{C32}
+use Rattle.types.specs.declared.Error.{Error}
+use Rattle.types.specs.declared.Error.the-variants.{Odd, Record, Output, Marks}
+use Rattle.types.specs.declared.Outcome.{Outcome}
+use Rattle.types.specs.declared.Outcome.the-variants.{Served, Refused}
 use Rattle.definition.specs.Refusals.{Test, test, firstOf}
 use Rattle.definition.specs.Floats.{zeroC, finiteC}
 use Rattle.definition.specs.Slices.{whole, samplesOf}
@@ -21,12 +21,12 @@ use Rattle.definition.specs.Sample.{Equalizer, Did, allTaps, feedback, forward,
 use Rattle.definition.specs.Rules.{rules, acceptedDef}
 use Rattle.definition.specs.Run.{Run, runDef, floatsOf, marksOf}
 use Rattle.definition.specs.Calls.{even, lengthsOf, equalizeTests, verdictDef, Answer, answerBy, equalizeDef}
-use Rattle.definition.proofs.Parts.{is-true}
-use Rattle.definition.proofs.Accept.{accepted-parts, accepted-whole}
-use Rattle.definition.proofs.Kept.{run-accepted}
-use Rattle.definition.proofs.Exits.{stage-mark}
-use Rattle.definition.proofs.Runs.{run-outs, floats-length, marks-length, samples-length}
-use Rattle.definition.proofs.Verdicts.{both, and-true, passes, refused-not, served-fits}
+use Rattle.definition_laws.proofs.Parts.{is-true}
+use Rattle.definition_laws.proofs.Accept.{accepted-parts, accepted-whole}
+use Rattle.definition_laws.proofs.Kept.{run-accepted}
+use Rattle.definition_laws.proofs.Exits.{stage-mark}
+use Rattle.definition_laws.proofs.Runs.{run-outs, floats-length, marks-length, samples-length}
+use Rattle.definition_laws.proofs.Verdicts.{both, and-true, passes, refused-not, served-fits}
 use Rattle.demands.specs.Demand1.{ServedCall, RefusedCall, Demand1, lengthsVerdict, ByLengths, markOf, EveryMark}
 
 -- an accepted equalizer stays accepted over a block

@@ -14,15 +14,16 @@ use lib.Ieee.{Float, nan, inf, fin, binary32, prec, emax, low, up, down, ofBits,
 use lib.Ieee.Fits.{and-i}
 use lib.Ieee.Scale.{finite}
 use Rattle.laws.specs.Bound.{AtMost, Held, mul-at-most, add-at-most, sub-at-most, at-most-mono, at-most-finite, term-more}
-use Rattle.definition.specs.declared.C32.{C32}
-use Rattle.definition.specs.Floats.{_+f_, _-f_, _*f_, zero32, complex, zeroC, finiteC}
+use Rattle.types.specs.declared.C32.{C32}
+use Rattle.types.specs.Bits.{zero32}
+use Rattle.definition.specs.Floats.{_+f_, _-f_, _*f_, complex, zeroC, finiteC}
 use Rattle.definition.specs.Slices.{reAt, imAt, every, shifted, prodRe, prodIm, lane, laneCount, tree, sum8, filterSum}
 use Rattle.definition.specs.Sample.{Equalizer, allTaps, feedback, forward, sanitized, step1, step2}
 use Rattle.definition.specs.Rules.{acceptedDef, Shape}
-use Rattle.definition.proofs.Parts.{is-true}
-use Rattle.definition.proofs.Every.{every-at, every-shifted}
-use Rattle.definition.proofs.Accept.{Accepted, accepted-parts, shape}
-use Rattle.definition.proofs.Kept.{step1-length}
+use Rattle.definition_laws.proofs.Parts.{is-true}
+use Rattle.definition_laws.proofs.Every.{every-at, every-shifted}
+use Rattle.definition_laws.proofs.Accept.{Accepted, accepted-parts, shape}
+use Rattle.definition_laws.proofs.Kept.{step1-length}
 use Rattle.demands.specs.NoSpill.{upTo, NoSpill}
 
 -- ---- powers of two, in smallest values

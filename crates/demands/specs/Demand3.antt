@@ -5,7 +5,7 @@ use mathlib.Core.Bool.{true}
 use mathlib.Core.List.{List, _++_}
 use lib.ListN.{length, take, replicate}
 use lib.Ieee.{Float}
-use Rattle.definition.specs.declared.C32.{C32}
+use Rattle.types.specs.declared.C32.{C32}
 use Rattle.definition.specs.Slices.{zeros}
 use Rattle.definition.specs.Sample.{Equalizer, feedback, forward, blankMark}
 use Rattle.definition.specs.Rules.{acceptedDef}

@@ -4,7 +4,7 @@ use mathlib.Core.Path.{_≡_}
 use mathlib.Core.Bool.{Bool, true, false}
 use lib.Dec.{leb}
 use lib.Ieee.{Float, nan, inf, fin, up, down}
-use Rattle.definition.specs.declared.C32.{C32}
+use Rattle.types.specs.declared.C32.{C32}
 use Rattle.definition.specs.Floats.{finiteC}
 use Rattle.definition.specs.Slices.{every}
 use Rattle.definition.specs.Sample.{Equalizer, allTaps, forward, step1, step2}

@@ -6,7 +6,7 @@ use native.Mathlib.Omega.{arith}
 use lib.ListN.{length}
 use lib.Ieee.{Float}
 use borrow.Author.Tests.{eq-eqb, ne-eqb}
-use Rattle.definition.specs.declared.C32.{C32}
+use Rattle.types.specs.declared.C32.{C32}
 use Rattle.definition.specs.Slices.{filterSum, dotComplex}
 use Rattle.dot.specs.declared.DotComplex.the-variants.{Sum, LengthMismatch, Odd}
 use Rattle.dot.specs.Dot.{dotDef}

@@ -7,7 +7,8 @@ use native.Mathlib.Decide.{ℕ-discrete, decLt}
 use lib.ListN.{length, getD, set, replicate, length-set, getD-replicate}
 use lib.Seq.{getD-set-same, getD-set-other}
 use lib.Ieee.{Float, nan}
-use Rattle.definition.specs.Floats.{zero32, _+f_}
+use Rattle.types.specs.Bits.{zero32}
+use Rattle.definition.specs.Floats.{_+f_}
 use Rattle.definition.specs.Slices.{lane, laneCount, sum8, tree}
 use Rattle.dot.specs.Added.{Added}
 

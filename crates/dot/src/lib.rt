@@ -1,5 +1,5 @@
 // The complex filter sum, sum of x[i] w[i] without conjugate, over interleaved slices: eight partial sums for each component, f32 without FMA.
-use definition::C32;
+use types::C32;
 ghost use mathlib.Core.Path.{_≡_};
 ghost use Prim.Native.Nat.{_*_, _+_, _<_, _≤_};
 ghost use lib.ListN.{length, getD};

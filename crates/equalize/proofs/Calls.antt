@@ -8,23 +8,25 @@ use lib.ListN.{length}
 use lib.Dec.{T, eqb, leb, leb→le}
 use borrow.Author.Tests.{eqb-true}
 use lib.Ieee.{Float, nan, inf, fin, isNan, ne}
-use Rattle.definition.specs.declared.LoopGains.{LoopGains}
-use Rattle.definition.specs.declared.EqParams.{EqParams}
-use Rattle.definition.specs.declared.EqualizeState.{EqualizeState}
-use Rattle.definition.specs.declared.Fresh.the-variants.{Made, NotMade}
-use Rattle.definition.specs.declared.Error.{Error}
-use Rattle.definition.specs.declared.Error.the-variants.{Odd, Feedback, Taps, MuCma, MuDd, Record}
-use Rattle.definition.specs.declared.Outcome.{Outcome}
-use Rattle.definition.specs.declared.Outcome.the-variants.{Served, Refused}
-use Rattle.definition.specs.Floats.{zero32, maxFreq, flush, clip}
+use Rattle.types.specs.declared.LoopGains.{LoopGains}
+use Rattle.types.specs.declared.EqParams.{EqParams}
+use Rattle.types.specs.declared.EqualizeState.{EqualizeState}
+use Rattle.types.specs.declared.Fresh.the-variants.{Made, NotMade}
+use Rattle.types.specs.declared.Error.{Error}
+use Rattle.types.specs.declared.Error.the-variants.{Odd, Feedback, Taps, MuCma, MuDd, Record}
+use Rattle.types.specs.declared.Outcome.{Outcome}
+use Rattle.types.specs.declared.Outcome.the-variants.{Served, Refused}
+use Rattle.types.specs.Bits.{zero32}
+use Rattle.definition.specs.Floats.{maxFreq, flush, clip}
 use Rattle.definition.specs.Slices.{samplesOf, zeros, startWeights}
 use Rattle.definition.specs.Packed.{equalizer, answered, made, resetTo, settled, Shaped, Ran}
 use Rattle.definition.specs.Gains.{phaseDamping, loopGains}
 use Rattle.definition.specs.Sample.{withRunning}
 use Rattle.definition.specs.Run.{runDef}
 use Rattle.definition.specs.Rules.{feedbackFits, tapsFit, muFits, ruleR1, ruleR2, rules}
-use Rattle.definition.specs.Calls.{even, newTests, newVerdict, startState, startOver, freshState, newDef, resetVerdict, resetDef, withParams, withMus, setMuCmaDef, setMuDdDef, heldFreq, setFrequencyDef, lengthsOf, verdictDef, servedBy, equalizeDef}
-use Rattle.definition.proofs.Verdicts.{both, fine, served-fits}
+use Rattle.types.specs.Start.{startState}
+use Rattle.definition.specs.Calls.{even, newTests, newVerdict, startOver, freshState, newDef, resetVerdict, resetDef, withParams, withMus, setMuCmaDef, setMuDdDef, heldFreq, setFrequencyDef, lengthsOf, verdictDef, servedBy, equalizeDef}
+use Rattle.definition_laws.proofs.Verdicts.{both, fine, served-fits}
 use Rattle.record.proofs.Bits.{is-nan, no-nan}
 
 -- ---- an equalizing call

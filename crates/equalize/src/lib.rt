@@ -1,11 +1,11 @@
 // The adaptive equalizer: its public calls. Samples are interleaved f32, real part first; weights and window are lent, forward taps, then feedback
 // taps, newest first in each.
-use definition::EqParams;
-use definition::EqualizeState;
-use definition::Equalized;
-use definition::Error;
-use definition::Fresh;
-use definition::Outcome;
+use types::EqParams;
+use types::EqualizeState;
+use types::Equalized;
+use types::Error;
+use types::Fresh;
+use types::Outcome;
 
 pub mod reference;
 

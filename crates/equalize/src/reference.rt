@@ -1,7 +1,7 @@
 // The plain path.
-use definition::EqualizeState;
-use definition::Equalized;
-use definition::Outcome;
+use types::EqualizeState;
+use types::Equalized;
+use types::Outcome;
 ghost use mathlib.Core.Path.{_≡_};
 ghost use Rattle.definition.specs.Packed.{equalizer, answered};
 ghost use Rattle.definition.specs.Calls.{equalizeDef};

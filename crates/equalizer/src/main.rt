@@ -10,8 +10,8 @@ mod text;
 use crate::files::Opened;
 use crate::options::Asked;
 use crate::options::Options;
-use definition::EqualizeState;
-use definition::Fresh;
+use types::EqualizeState;
+use types::Fresh;
 ghost use Prim.Native.Nat.{_≤_};
 
 fn main() {

@@ -3,8 +3,8 @@ ghost use Prim.Native.Nat.{_<_};
 use crate::numbers;
 use crate::numbers::Real;
 use crate::numbers::Whole;
-use definition::EqConstellation;
-use definition::EqParams;
+use types::EqConstellation;
+use types::EqParams;
 
 pub(crate) struct Options {
     constellation: usize,

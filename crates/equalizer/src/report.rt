@@ -6,10 +6,10 @@ use crate::stream::Ending;
 use crate::stream::Tally;
 use crate::text;
 use crate::text::Page;
-use definition::EqualizeState;
-use definition::Error;
 use libc::STDERR_FILENO;
 use libc::STDOUT_FILENO;
+use types::EqualizeState;
+use types::Error;
 
 // The start of a line.
 fn begin(p: &mut Page, o: Options, words: &[u8]) -> usize {
@@ -99,7 +99,7 @@ fn measured(p: &mut Page, start: usize, what: &[u8], x: f32) -> usize {
 pub(crate) fn refused(o: Options, e: Error) {
     let mut p = [0u8; 4096];
     let a = begin(&mut p, o, b"refused, number ");
-    let b = counted(&mut p, a, definition::error_number(e) as u64, b": ");
+    let b = counted(&mut p, a, types::error_number(e) as u64, b": ");
     let c = reason(&mut p, b, e);
     tell(&mut p, c, o);
 }

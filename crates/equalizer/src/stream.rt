@@ -10,10 +10,10 @@ use crate::samples::Marks;
 use crate::samples::Raw;
 use crate::text;
 use crate::text::Page;
-use definition::EqualizeState;
-use definition::Equalized;
-use definition::Error;
-use definition::Outcome;
+use types::EqualizeState;
+use types::Equalized;
+use types::Error;
+use types::Outcome;
 
 pub(crate) struct Tally {
     pub(crate) samples: u64,

@@ -1,5 +1,5 @@
 // Text on its way out: a page, and how many of its bytes are used. What finds no room is left out.
-use definition::EqMode;
+use types::EqMode;
 
 pub(crate) type Page = [u8; 4096];
 

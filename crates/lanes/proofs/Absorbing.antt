@@ -6,15 +6,15 @@ use mathlib.Core.List.{List}
 use native.Mathlib.Omega.{arith}
 use lib.ListN.{set}
 use lib.Ieee.{Float}
-use Rattle.definition.specs.declared.C32.{C32}
-use Rattle.definition.specs.declared.EqualizeState.{EqualizeState}
-use Rattle.definition.specs.declared.Update.{Update}
-use Rattle.definition.specs.declared.Update.the-variants.{Hold}
+use Rattle.types.specs.declared.C32.{C32}
+use Rattle.types.specs.declared.EqualizeState.{EqualizeState}
+use Rattle.types.specs.declared.Update.{Update}
+use Rattle.types.specs.declared.Update.the-variants.{Hold}
 use Rattle.definition.specs.Floats.{norm, finiteC}
 use Rattle.definition.specs.Slices.{power}
 use Rattle.definition.specs.Sample.{Equalizer, Did, Stage, forward, feedback, step1, step2, step3, step8, sampleDef, adapted, hear, heardAs, passedBy, spilledMark, blankMark, updateOf}
-use Rattle.definition.proofs.Accept.{Accepted}
-use Rattle.definition.proofs.Kept.{Staged, staged}
+use Rattle.definition_laws.proofs.Accept.{Accepted}
+use Rattle.definition_laws.proofs.Kept.{Staged, staged}
 use Rattle.lanes.specs.Arrays.{Arrays, arrays}
 use Rattle.lanes.specs.Holds.{Weights, Holds, Put, Limits, Shaped}
 use Rattle.lanes.specs.Adapts.{Ready, Adapts}
@@ -22,16 +22,16 @@ use Rattle.lanes.specs.Absorbs.{Absorbs}
 use Rattle.lanes.specs.Measures.{Measures}
 use Rattle.lanes.proofs.Holding.{holds-forward, holds-taps, window-is, squares-in, holds-next}
 
-pub absorbed : (u : Update) (fed : C32) (at quads mquads front centre : ℕ) (wl vl wr wi vr vi xr xi dr di dq wr′ wi′ vr′ vi′ dr′ di′ dq′ : List Float) → at ≤ 63
-    → Adapts u wr wi wl xr xi at quads vr vi vl dr di (at + 9 - front) mquads centre wr′ wi′ vr′ vi′
-    → dr′ ≡ set dr (at + 8) (fed .re) → di′ ≡ set di (at + 8) (fed .im) → dq′ ≡ set dq (at + 8) (norm fed)
-    → Absorbs u fed at quads mquads front centre wl vl (arrays wr wi vr vi xr xi dr di dq) (arrays wr′ wi′ vr′ vi′ xr xi dr′ di′ dq′)
-absorbed u fed at quads mquads front centre wl vl wr wi vr vi xr xi dr di dq wr′ wi′ vr′ vi′ dr′ di′ dq′ low a er ei eq = record {
+pub absorbed : (u : Update) (fed : C32) (at quads mquads front centre : ℕ) (limit wr wi xr xi q wr′ wi′ xr′ xi′ q′ : List Float) → at ≤ 63
+    → Adapts u wr wi limit xr xi at quads (at + 153 - front) mquads centre wr′ wi′
+    → xr′ ≡ set xr (at + 152) (fed .re) → xi′ ≡ set xi (at + 152) (fed .im) → q′ ≡ set q (at + 152) (norm fed)
+    → Absorbs u fed at quads mquads front centre limit (arrays wr wi xr xi q) (arrays wr′ wi′ xr′ xi′ q′)
+absorbed u fed at quads mquads front centre limit wr wi xr xi sq wr′ wi′ xr′ xi′ sq′ low a er ei eq = record {
   holds = λ n m lanes more q x t c.
-      let old = arrays wr wi vr vi xr xi dr di dq in
+      let old = arrays wr wi xr xi sq in
       let h = step1 n x (q .window) in
-      let early : at + 9 - front + n % 8 ≡ at + 9 = omega (arith, c .front-is) in
-      let ready : Ready n m wr wi wl xr xi at quads vr vi vl dr di (at + 9 - front) mquads centre (q .weights) h = record {
+      let early : at + 153 - front + n % 8 ≡ at + 153 = omega (arith, c .front-is) in
+      let ready : Ready n m wr wi limit xr xi at quads (at + 153 - front) mquads centre (q .weights) h = record {
         weights = c .holds .weights;
         window = window-is n m at old q x (c .holds) (c .put);
         limits = c .limits;
@@ -48,8 +48,8 @@ absorbed u fed at quads mquads front centre wl vl wr wi vr vi xr xi dr di dq wr�
         wide′ = c .shaped .mquads-wide;
         middle = c .middle;
       } in
-      let p : Weights n m wr′ wi′ vr′ vi′ (t .weights) = rw (c .weights-are) (a .holds n m (q .weights) h ready) in
-      rw (er, ei, eq, sym (c .fed-is)) (holds-next n m at old q x t wr′ wi′ vr′ vi′ low (c .holds) (c .put) p (c .params) (c .fine-re) (c .fine-im));
+      let p : Weights n m wr′ wi′ (t .weights) = rw (c .weights-are) (a .holds n m (q .weights) h ready) in
+      rw (er, ei, eq, sym (c .fed-is)) (holds-next n m at old q x t wr′ wi′ low (c .shaped .most) (c .holds) (c .put) p (c .params) (c .fine-re) (c .fine-im));
 }
 
 -- ---- what `measure` gives: y of step 2, and the power over all taps
@@ -100,14 +100,14 @@ staged-by {n} {m} {p} {a} {q} s ok x h y =
     (subst (λ (k : ℕ). Staged q (step3 (q .state) (q .weights) k (forward q) x h y)) (holds-taps s) (staged q ok x h y))
 
 -- ONE SAMPLE: arrays that hold an accepted q hold `sampleDef`'s equalizer after `absorb` is given the sample's own update and fed-back sample
-pub sample-holds : (n m at lanes more quads mquads front centre : ℕ) (wl vl : List Float) (a a′ : Arrays) (q : Equalizer) (x : C32) (u : Update) (fed : C32)
-    → Accepted q → Shaped n m lanes more quads mquads → front ≡ n % 8 → centre ≡ n / 2 → Limits wl 0 n → Limits vl (n % 8) m
+pub sample-holds : (n m at lanes more quads mquads front centre : ℕ) (limit : List Float) (a a′ : Arrays) (q : Equalizer) (x : C32) (u : Update) (fed : C32)
+    → Accepted q → Shaped n m lanes more quads mquads → front ≡ n % 8 → centre ≡ n / 2 → Limits limit 0 0 n → Limits limit 72 (n % 8) m
     → Holds n m (at + 1) a q → Put at x (a .xr) (a .xi)
     → step3 (q .state) (q .weights) (n + m) n x (step1 n x (q .window)) (step2 (n + m) (q .weights) (step1 n x (q .window))) .weights ≡ adapted u (n + m) n (q .weights) (step1 n x (q .window))
     → step3 (q .state) (q .weights) (n + m) n x (step1 n x (q .window)) (step2 (n + m) (q .weights) (step1 n x (q .window))) .fed ≡ fed
-    → Absorbs u fed at quads mquads front centre wl vl a a′
+    → Absorbs u fed at quads mquads front centre limit a a′
     → Holds n m at a′ (sampleDef q x .equalizer)
-sample-holds n m at lanes more quads mquads front centre wl vl a a′ q x u fed ok shaped f c l l′ holds put uw ff r =
+sample-holds n m at lanes more quads mquads front centre limit a a′ q x u fed ok shaped f c l l′ holds put uw ff r =
     let h = step1 n x (q .window) in
     let t = step3 (q .state) (q .weights) (n + m) n x h (step2 (n + m) (q .weights) h) in
     let g = staged-by holds ok x h (step2 (n + m) (q .weights) h) in

@@ -5,7 +5,7 @@ use mathlib.Core.List.{List}
 use native.Mathlib.Omega.{arith}
 use lib.ListN.{length, getD, replicate, getD-replicate}
 use lib.Ieee.{Float, nan}
-use Rattle.definition.specs.Floats.{zero32}
+use Rattle.types.specs.Bits.{zero32}
 use Rattle.definition.specs.Slices.{tree}
 use Rattle.lanes.specs.Split.{laneFrom, Onto, sumTwo}
 use Rattle.dot.specs.Added.{Added}

@@ -15,12 +15,12 @@ pub record Entering (x : List Float) (len : ℕ) (xr₀ xi₀ : List Float) (k :
   pub half : len ≡ length x / 2
   pub most : len ≤ 64
   pub here : k ≤ len
-  pub long : length xr₀ ≡ 144
-  pub long′ : length xi₀ ≡ 144
+  pub long : length xr₀ ≡ 288
+  pub long′ : length xi₀ ≡ 288
   pub re : Between (enteredRe x) (64 - k) 64 xr₀ xr
   pub im : Between (enteredIm x) (64 - k) 64 xi₀ xi
 
-pub entering-none : (x : List Float) (len : ℕ) (xr xi : List Float) → len ≡ length x / 2 → length xr ≡ 144 → length xi ≡ 144 → len ≤ 64 → Entering x len xr xi 0 xr xi
+pub entering-none : (x : List Float) (len : ℕ) (xr xi : List Float) → len ≡ length x / 2 → length xr ≡ 288 → length xi ≡ 288 → len ≤ 64 → Entering x len xr xi 0 xr xi
 entering-none x len xr xi a b c d = record { half = a; most = d; here = omega arith; long = b; long′ = c; re = between-none _ _ _; im = between-none _ _ _ }
 
 pub entering-more : (x : List Float) (len : ℕ) (xr₀ xi₀ : List Float) (k : ℕ) (xr xi : List Float) (fa fb : Bool) (a b : Float)

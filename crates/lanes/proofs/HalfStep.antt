@@ -5,13 +5,14 @@ use mathlib.Core.Bool.{Bool, true, false}
 use mathlib.Core.List.{List}
 use native.Mathlib.Omega.{arith}
 use native.Mathlib.Decide.{decLt}
-use lib.ListN.{getD}
+use lib.ListN.{length, getD}
 use lib.Dec.{T}
 use lib.Ieee.{Float, nan, inf}
 use lib.Ieee.Scale.{finite}
-use Rattle.definition.specs.Floats.{_+f_, _-f_, _*f_, zero32, tiny, complex}
-use Rattle.definition.specs.Slices.{newRe, newIm, updated}
-use Rattle.lanes.specs.Steps.{uneven, laneRe, laneIm, stepRe, stepIm, anyOf, brokenAt, clearOf, Mapped}
+use Rattle.types.specs.Bits.{zero32}
+use Rattle.definition.specs.Floats.{_+f_, _-f_, _*f_, tiny, complex}
+use Rattle.definition.specs.Slices.{reAt, imAt, newRe, newIm, updated}
+use Rattle.lanes.specs.Steps.{uneven, laneRe, laneIm, stepRe, stepIm, anyOf, brokenAt, brokenIn, clearOf, clearIn, Within}
 use Rattle.lanes.specs.Holds.{Lies, Blank, Half, Limits}
 use Rattle.lanes.proofs.Tests.{kept-tiny, kept-top-fine, even-fine, fine-even, any-false, none-any, tiny-low, tiny-not-high, top-not-low, top-high}
 use Rattle.lanes.proofs.Updating.{updated-re, updated-im}
@@ -45,56 +46,74 @@ broken-pad : (r m l : Float) → l ≡ inf false → brokenAt r m l ≡ false
 unfolding brokenAt
 broken-pad r m l e = rw (e, top-not-low)
 
-module _ (re im limit xr xi w h : List Float) (a from base count K N : ℕ) (gr gi : Float) (re′ im′ : List Float)
-    (s : Half re im from w base count) (x : Lies xr xi (a + from) h base count) (l : Limits limit from count)
+-- a half is what its 72 lanes are
+pub half-kept : {re im re′ im′ w : List Float} (o from base count : ℕ) → length re′ ≡ length re → length im′ ≡ length im
+    → ((i : ℕ) → i < 72 → getD re′ (o + i) nan ≡ getD re (o + i) nan) → ((i : ℕ) → i < 72 → getD im′ (o + i) nan ≡ getD im (o + i) nan)
+    → Half re im o from w base count → Half re′ im′ o from w base count
+half-kept o from base count a b f g s = record {
+  long = a ∙ s .long;
+  long′ = b ∙ s .long′;
+  room = s .room;
+  lies = record {
+    re-is = λ j l. let e : o + from + j ≡ o + (from + j) = omega arith in rw e (f (from + j) (omega (arith, s .room)) ∙ rw e at (s .lies .re-is j l));
+    im-is = λ j l. let e : o + from + j ≡ o + (from + j) = omega arith in rw e (g (from + j) (omega (arith, s .room)) ∙ rw e at (s .lies .im-is j l));
+  };
+  early = record { re-zero = λ i p q. f i (omega (arith, s .room)) ∙ s .early .re-zero i p q; im-zero = λ i p q. g i (omega (arith, s .room)) ∙ s .early .im-zero i p q };
+  late = record { re-zero = λ i p q. f i q ∙ s .late .re-zero i p q; im-zero = λ i p q. g i q ∙ s .late .im-zero i p q };
+}
+
+module _ (re im limit xr xi w h : List Float) (a o from base count K N : ℕ) (gr gi : Float) (re′ im′ : List Float)
+    (s : Half re im o from w base count) (x : Lies xr xi (a + from) h base count) (l : Limits limit o from count)
     (fit : K ≤ 72) (wide : 0 < count → from + count ≤ K) (within : base + count ≤ N)
-    (mr : Mapped (stepRe re limit xr xi a gr gi) K re re′) (mi : Mapped (stepIm im limit xr xi a gr gi) K im im′) where
-  tap-re : (j : ℕ) → j < count → getD re′ (from + j) nan ≡ newRe (complex gr gi) w h (base + j)
+    (mr : Within (stepRe re limit xr xi a o gr gi) o K re re′) (mi : Within (stepIm im limit xr xi a o gr gi) o K im im′) where
+  tap-re : (j : ℕ) → j < count → getD re′ (o + (from + j)) nan ≡ newRe (complex gr gi) w h (base + j)
   unfolding laneRe
   tap-re j b =
       let q = wide (omega arith) in
       let e : a + (from + j) ≡ a + from + j = omega arith in
-      mr .done (from + j) (omega arith) ∙ rw (l .inside j b, s .lies .re-is j b, e, x .re-is j b, x .im-is j b) (kept-tiny _)
+      let f : getD re (o + (from + j)) nan ≡ reAt w (base + j) = (let g : o + (from + j) ≡ o + from + j = omega arith in rw g (s .lies .re-is j b)) in
+      mr .done (from + j) (omega arith) ∙ rw (l .inside j b, f, e, x .re-is j b, x .im-is j b) (kept-tiny _)
 
-  tap-im : (j : ℕ) → j < count → getD im′ (from + j) nan ≡ newIm (complex gr gi) w h (base + j)
+  tap-im : (j : ℕ) → j < count → getD im′ (o + (from + j)) nan ≡ newIm (complex gr gi) w h (base + j)
   unfolding laneIm
   tap-im j b =
       let q = wide (omega arith) in
       let e : a + (from + j) ≡ a + from + j = omega arith in
-      mi .done (from + j) (omega arith) ∙ rw (l .inside j b, s .lies .im-is j b, e, x .re-is j b, x .im-is j b) (kept-tiny _)
+      let f : getD im (o + (from + j)) nan ≡ imAt w (base + j) = (let g : o + (from + j) ≡ o + from + j = omega arith in rw g (s .lies .im-is j b)) in
+      mi .done (from + j) (omega arith) ∙ rw (l .inside j b, f, e, x .re-is j b, x .im-is j b) (kept-tiny _)
 
-  new-lies : Lies re′ im′ from (updated N (complex gr gi) w h) base count
+  new-lies : Lies re′ im′ (o + from) (updated N (complex gr gi) w h) base count
   new-lies = record {
-    re-is = λ j b. tap-re j b ∙ sym (updated-re N (complex gr gi) w h (base + j) (omega arith));
-    im-is = λ j b. tap-im j b ∙ sym (updated-im N (complex gr gi) w h (base + j) (omega arith));
+    re-is = λ j b. let e : o + from + j ≡ o + (from + j) = omega arith in rw e (tap-re j b ∙ sym (updated-re N (complex gr gi) w h (base + j) (omega arith)));
+    im-is = λ j b. let e : o + from + j ≡ o + (from + j) = omega arith in rw e (tap-im j b ∙ sym (updated-im N (complex gr gi) w h (base + j) (omega arith)));
   }
 
   -- ---- no lane is flagged
-  module _ (calm : anyOf K (λ i. uneven (stepRe re limit xr xi a gr gi i) (stepIm im limit xr xi a gr gi i)) ≡ false) where
-    lane-fine : (i : ℕ) → i < K → T (finite (stepRe re limit xr xi a gr gi i)) × T (finite (stepIm im limit xr xi a gr gi i))
-    lane-fine i b = even-fine _ _ (any-false (λ i. uneven (stepRe re limit xr xi a gr gi i) (stepIm im limit xr xi a gr gi i)) K calm i b)
+  module _ (calm : anyOf K (λ i. uneven (stepRe re limit xr xi a o gr gi i) (stepIm im limit xr xi a o gr gi i)) ≡ false) where
+    lane-fine : (i : ℕ) → i < K → T (finite (stepRe re limit xr xi a o gr gi i)) × T (finite (stepIm im limit xr xi a o gr gi i))
+    lane-fine i b = even-fine _ _ (any-false (λ i. uneven (stepRe re limit xr xi a o gr gi i) (stepIm im limit xr xi a o gr gi i)) K calm i b)
 
-    pad-at-re : (i : ℕ) → getD limit i nan ≡ inf false → getD re i nan ≡ zero32 → Dec (i < K) → getD re′ i nan ≡ zero32
-    pad-at-re i p z (yes b) = mr .done i b ∙ lane-pad-re _ _ _ _ _ _ p (lane-fine i b .0)
-    pad-at-re i p z (no b) = mr .kept i (omega arith) ∙ z
+    pad-at-re : (i : ℕ) → i < 72 → getD limit (o + i) nan ≡ inf false → getD re (o + i) nan ≡ zero32 → Dec (i < K) → getD re′ (o + i) nan ≡ zero32
+    pad-at-re i r p z (yes b) = mr .done i b ∙ lane-pad-re _ _ _ _ _ _ p (lane-fine i b .0)
+    pad-at-re i r p z (no b) = mr .kept i (omega arith) r ∙ z
 
-    pad-at-im : (i : ℕ) → getD limit i nan ≡ inf false → getD im i nan ≡ zero32 → Dec (i < K) → getD im′ i nan ≡ zero32
-    pad-at-im i p z (yes b) = mi .done i b ∙ lane-pad-im _ _ _ _ _ _ p (lane-fine i b .1)
-    pad-at-im i p z (no b) = mi .kept i (omega arith) ∙ z
+    pad-at-im : (i : ℕ) → i < 72 → getD limit (o + i) nan ≡ inf false → getD im (o + i) nan ≡ zero32 → Dec (i < K) → getD im′ (o + i) nan ≡ zero32
+    pad-at-im i r p z (yes b) = mi .done i b ∙ lane-pad-im _ _ _ _ _ _ p (lane-fine i b .1)
+    pad-at-im i r p z (no b) = mi .kept i (omega arith) r ∙ z
 
-    pub calm-half : Half re′ im′ from (updated N (complex gr gi) w h) base count
+    pub calm-half : Half re′ im′ o from (updated N (complex gr gi) w h) base count
     calm-half = record {
       long = mr .long ∙ s .long;
       long′ = mi .long ∙ s .long′;
       room = s .room;
       lies = new-lies;
       early = record {
-        re-zero = λ i p q. pad-at-re i (l .early i q) (s .early .re-zero i p q) (decLt i K);
-        im-zero = λ i p q. pad-at-im i (l .early i q) (s .early .im-zero i p q) (decLt i K);
+        re-zero = λ i p q. pad-at-re i (omega (arith, s .room)) (l .early i q) (s .early .re-zero i p q) (decLt i K);
+        im-zero = λ i p q. pad-at-im i (omega (arith, s .room)) (l .early i q) (s .early .im-zero i p q) (decLt i K);
       };
       late = record {
-        re-zero = λ i p q. pad-at-re i (l .late i p q) (s .late .re-zero i p q) (decLt i K);
-        im-zero = λ i p q. pad-at-im i (l .late i p q) (s .late .im-zero i p q) (decLt i K);
+        re-zero = λ i p q. pad-at-re i q (l .late i p q) (s .late .re-zero i p q) (decLt i K);
+        im-zero = λ i p q. pad-at-im i q (l .late i p q) (s .late .im-zero i p q) (decLt i K);
       };
     }
 
@@ -107,15 +126,16 @@ module _ (re im limit xr xi w h : List Float) (a from base count K N : ℕ) (gr 
         )
 
   -- ---- the test over the taps alone
-  pub whole-fine : anyOf 72 (λ i. brokenAt (getD re′ i nan) (getD im′ i nan) (getD limit i nan)) ≡ false
+  pub whole-fine : brokenIn re′ im′ limit o ≡ false
       → (j : ℕ) → j < count → T (finite (newRe (complex gr gi) w h (base + j))) × T (finite (newIm (complex gr gi) w h (base + j)))
+  unfolding brokenIn
   whole-fine q j b =
-      let f = any-false (λ i. brokenAt (getD re′ i nan) (getD im′ i nan) (getD limit i nan)) 72 q (from + j) (omega (arith, s .room)) in
-      let g = even-fine (getD re′ (from + j) nan) (getD im′ (from + j) nan) (sym (broken-tap _ _ _ (l .inside j b)) ∙ f) in
+      let f = any-false (λ i. brokenAt (getD re′ (o + i) nan) (getD im′ (o + i) nan) (getD limit (o + i) nan)) 72 q (from + j) (omega (arith, s .room)) in
+      let g = even-fine (getD re′ (o + (from + j)) nan) (getD im′ (o + (from + j)) nan) (sym (broken-tap _ _ _ (l .inside j b)) ∙ f) in
       (subst (λ (v : Float). T (finite v)) (tap-re j b) (g .0), subst (λ (v : Float). T (finite v)) (tap-im j b) (g .1))
 
   fine-at : ((j : ℕ) → j < count → T (finite (newRe (complex gr gi) w h (base + j))) × T (finite (newIm (complex gr gi) w h (base + j))))
-      → (i : ℕ) → i < 72 → Dec (i < from) → Dec (i < from + count) → brokenAt (getD re′ i nan) (getD im′ i nan) (getD limit i nan) ≡ false
+      → (i : ℕ) → i < 72 → Dec (i < from) → Dec (i < from + count) → brokenAt (getD re′ (o + i) nan) (getD im′ (o + i) nan) (getD limit (o + i) nan) ≡ false
   fine-at f i b (yes p) q = broken-pad _ _ _ (l .early i p)
   fine-at f i b (no p) (no q) = broken-pad _ _ _ (l .late i (omega arith) b)
   fine-at f i b (no p) (yes q) =
@@ -127,21 +147,22 @@ module _ (re im limit xr xi w h : List Float) (a from base count K N : ℕ) (gr 
       (subst (λ (v : Float). T (finite v)) (sym (tap-im (i - from) k)) (f (i - from) k .1)))
 
   pub fine-whole : ((j : ℕ) → j < count → T (finite (newRe (complex gr gi) w h (base + j))) × T (finite (newIm (complex gr gi) w h (base + j))))
-      → anyOf 72 (λ i. brokenAt (getD re′ i nan) (getD im′ i nan) (getD limit i nan)) ≡ false
+      → brokenIn re′ im′ limit o ≡ false
+  unfolding brokenIn
   fine-whole f = none-any _ 72 (λ i b. fine-at f i b (decLt i from) (decLt i (from + count)))
 
   -- ---- cleared
   module _ (re″ im″ : List Float) (all : Bool)
-      (cr : Mapped (λ i. clearOf (getD re′ i nan) (getD limit i nan) all) 72 re′ re″)
-      (ci : Mapped (λ i. clearOf (getD im′ i nan) (getD limit i nan) all) 72 im′ im″) where
-    pub cleared-half : all ≡ false → Half re″ im″ from (updated N (complex gr gi) w h) base count
+      (cr : Within (clearIn re′ limit all o) o 72 re′ re″)
+      (ci : Within (clearIn im′ limit all o) o 72 im′ im″) where
+    pub cleared-half : all ≡ false → Half re″ im″ o from (updated N (complex gr gi) w h) base count
     cleared-half q = record {
       long = cr .long ∙ mr .long ∙ s .long;
       long′ = ci .long ∙ mi .long ∙ s .long′;
       room = s .room;
       lies = record {
-        re-is = λ j b. cr .done (from + j) (omega (arith, s .room)) ∙ clear-tap _ _ all (l .inside j b) q ∙ new-lies .re-is j b;
-        im-is = λ j b. ci .done (from + j) (omega (arith, s .room)) ∙ clear-tap _ _ all (l .inside j b) q ∙ new-lies .im-is j b;
+        re-is = λ j b. let e : o + from + j ≡ o + (from + j) = omega arith in rw e (cr .done (from + j) (omega (arith, s .room)) ∙ clear-tap _ _ all (l .inside j b) q) ∙ new-lies .re-is j b;
+        im-is = λ j b. let e : o + from + j ≡ o + (from + j) = omega arith in rw e (ci .done (from + j) (omega (arith, s .room)) ∙ clear-tap _ _ all (l .inside j b) q) ∙ new-lies .im-is j b;
       };
       early = record {
         re-zero = λ i p b. cr .done i (omega (arith, s .room)) ∙ clear-pad _ _ all (l .early i b);
@@ -153,7 +174,7 @@ module _ (re im limit xr xi w h : List Float) (a from base count K N : ℕ) (gr 
       };
     }
 
-    pub cleared-all : all ≡ true → Blank re″ im″ 0 72
+    pub cleared-all : all ≡ true → Blank re″ im″ o 0 72
     cleared-all q = record {
       re-zero = λ i p b. cr .done i b ∙ clear-all _ _ all q;
       im-zero = λ i p b. ci .done i b ∙ clear-all _ _ all q;

@@ -10,9 +10,10 @@ use borrow.Author.Tests.{le-ltb, lt-ltb}
 use lib.Dec.{T, ltb}
 use lib.Ieee.{Float, binary32, fits}
 use Rattle.laws.specs.Zero.{add-any-zero}
-use Rattle.definition.specs.Floats.{_+f_, zero32}
+use Rattle.types.specs.Bits.{zero32}
+use Rattle.definition.specs.Floats.{_+f_}
 use Rattle.definition.specs.Slices.{lane, laneCount, sum8}
-use Rattle.definition.proofs.Padding.{Zero, lane-fits, lane-not-neg, lane-same}
+use Rattle.definition_laws.proofs.Padding.{Zero, lane-fits, lane-not-neg, lane-same}
 use Rattle.lanes.specs.Split.{laneFrom, sumTwo}
 
 pub record Halves (P Q p : ℕ → Float) (n N m M : ℕ) : Type 0 where

@@ -9,9 +9,10 @@ use borrow.Author.Tests.{le-ltb, lt-ltb}
 use lib.ListN.{length, getD, set, replicate, length-set, length-replicate, getD-replicate}
 use lib.Seq.{getD-set-same, getD-set-other, ext-getD}
 use lib.Ieee.{Float, nan, inf, div, ofBits, ofFields, odd}
-use Rattle.definition.specs.Floats.{_/f_, zero32, one32, tiny}
+use Rattle.types.specs.Bits.{zero32, one32}
+use Rattle.definition.specs.Floats.{_/f_, tiny}
 use Rattle.definition.specs.Slices.{reAt, imAt}
-use Rattle.lanes.specs.Steps.{Mapped}
+use Rattle.lanes.specs.Ahead.{Between}
 use Rattle.lanes.specs.Load.{limitAt, Joined, Loaded}
 use Rattle.lanes.specs.Holds.{Lies, Half, Limits}
 
@@ -20,25 +21,40 @@ pub top-is : one32 /f zero32 ≡ inf false
 unfolding div ofBits ofFields odd
 top-is = refl
 
-module _ (from to i : ℕ) where
-  pub limit-early : i < from → one32 /f zero32 ≡ limitAt from to i
+module _ (n from to i : ℕ) where
+  pub limit-forth : i < n → tiny ≡ limitAt n from to i
   unfolding limitAt
-  limit-early h = top-is ∙ rw (lt-ltb i from h)
+  limit-forth h = rw (lt-ltb i n h)
 
-  pub limit-in : from ≤ i → i < to → tiny ≡ limitAt from to i
+  pub limit-early : n ≤ i → i < from → one32 /f zero32 ≡ limitAt n from to i
   unfolding limitAt
-  limit-in h g = rw (le-ltb i from h, lt-ltb i to g)
+  limit-early g h = top-is ∙ rw (le-ltb i n g, lt-ltb i from h)
 
-  pub limit-late : from ≤ i → to ≤ i → one32 /f zero32 ≡ limitAt from to i
+  pub limit-in : n ≤ i → from ≤ i → i < to → tiny ≡ limitAt n from to i
   unfolding limitAt
-  limit-late h g = top-is ∙ rw (le-ltb i from h, le-ltb i to g)
+  limit-in f h g = rw (le-ltb i n f, le-ltb i from h, lt-ltb i to g)
 
-pub limits-are : (from count : ℕ) (old l : List Float) → from + count ≤ 72 → Mapped (limitAt from (from + count)) 72 old l → Limits l from count
-limits-are from count old l h m = record {
-  inside = λ j b. m .done (from + j) (omega arith) ∙ sym (limit-in from (from + count) (from + j) (omega arith) (omega arith));
-  early = λ i b. m .done i (omega arith) ∙ sym (limit-early from (from + count) i b) ∙ top-is;
-  late = λ i b c. m .done i c ∙ sym (limit-late from (from + count) i (omega arith) b) ∙ top-is;
-}
+  pub limit-late : n ≤ i → from ≤ i → to ≤ i → one32 /f zero32 ≡ limitAt n from to i
+  unfolding limitAt
+  limit-late f h g = top-is ∙ rw (le-ltb i n f, le-ltb i from h, le-ltb i to g)
+
+module _ (n front m : ℕ) (old l : List Float) (a : n ≤ 72) (b : front + m ≤ 72) (s : Between (limitAt n (72 + front) (72 + front + m)) 0 144 old l) where
+  at : (i : ℕ) → i < 144 → getD l i nan ≡ limitAt n (72 + front) (72 + front + m) i
+  at i h = s .done i (omega arith) h
+
+  pub limits-are : Limits l 0 0 n × Limits l 72 front m
+  limits-are = (
+    record {
+      inside = λ j h. at (0 + (0 + j)) (omega arith) ∙ sym (limit-forth n (72 + front) (72 + front + m) (0 + (0 + j)) (omega arith));
+      early = λ i h. absurd (omega arith);
+      late = λ i h g. at (0 + i) (omega arith) ∙ sym (limit-early n (72 + front) (72 + front + m) (0 + i) (omega arith) (omega arith)) ∙ top-is;
+    },
+    record {
+      inside = λ j h. at (72 + (front + j)) (omega arith) ∙ sym (limit-in n (72 + front) (72 + front + m) (72 + (front + j)) (omega arith) (omega arith) (omega arith));
+      early = λ i h. at (72 + i) (omega arith) ∙ sym (limit-early n (72 + front) (72 + front + m) (72 + i) (omega arith) (omega arith)) ∙ top-is;
+      late = λ i h g. at (72 + i) (omega arith) ∙ sym (limit-late n (72 + front) (72 + front + m) (72 + i) (omega arith) (omega arith) (omega arith)) ∙ top-is;
+    },
+  )
 
 -- ---- store
 pub joined-none : (re im : List Float) (at from : ℕ) (x : List Float) → Joined re im at from 0 x x
@@ -77,16 +93,16 @@ module _ (re im : List Float) (at from i : ℕ) (old x : List Float) (s : Joined
   }
 
 -- both halves stored: the slice is the list that the lanes hold
-both-at : (n m a b : ℕ) (re im vr vi w old mid x : List Float) → Lies re im a w 0 n → Lies vr vi b w n m → length w ≡ 2 * (n + m) → length old ≡ 2 * (n + m)
-    → Joined re im a 0 n old mid → Joined vr vi b n m mid x → (i : ℕ) → i < n + m → Dec (i < n) → (reAt x i ≡ reAt w i) × (imAt x i ≡ imAt w i)
-both-at n m a b re im vr vi w old mid x p q e f j k i l (yes h) =
+both-at : (n m a b : ℕ) (re im w old mid x : List Float) → Lies re im a w 0 n → Lies re im b w n m → length w ≡ 2 * (n + m) → length old ≡ 2 * (n + m)
+    → Joined re im a 0 n old mid → Joined re im b n m mid x → (i : ℕ) → i < n + m → Dec (i < n) → (reAt x i ≡ reAt w i) × (imAt x i ≡ imAt w i)
+both-at n m a b re im w old mid x p q e f j k i l (yes h) =
     let z : 0 + i ≡ i = omega arith in
     let u = rw z at (j .re-is i h) in
     let v = rw z at (j .im-is i h) in
     let r = rw z at (p .re-is i h) in
     let s = rw z at (p .im-is i h) in
     (k .low (2 * i) (omega arith) ∙ u ∙ r, k .low (2 * i + 1) (omega arith) ∙ v ∙ s)
-both-at n m a b re im vr vi w old mid x p q e f j k i l (no h) =
+both-at n m a b re im w old mid x p q e f j k i l (no h) =
     let z : n + (i - n) ≡ i = omega arith in
     let u = rw z at (k .re-is (i - n) (omega arith)) in
     let v = rw z at (k .im-is (i - n) (omega arith)) in
@@ -98,12 +114,12 @@ parity : (w x : List Float) (n k : ℕ) → k < 2 * n → ((i : ℕ) → i < n �
 parity w x n k l h (yes e) = let d : k ≡ 2 * (k / 2) = omega arith in rw d (h (k / 2) (omega arith) .0)
 parity w x n k l h (no e) = let d : k ≡ 2 * (k / 2) + 1 = omega arith in rw d (h (k / 2) (omega arith) .1)
 
-pub stored-back : (n m a b : ℕ) (re im vr vi w old mid x : List Float) → Lies re im a w 0 n → Lies vr vi b w n m → length w ≡ 2 * (n + m) → length old ≡ 2 * (n + m)
-    → Joined re im a 0 n old mid → Joined vr vi b n m mid x → x ≡ w
-stored-back n m a b re im vr vi w old mid x p q e f j k =
+pub stored-back : (n m a b : ℕ) (re im w old mid x : List Float) → Lies re im a w 0 n → Lies re im b w n m → length w ≡ 2 * (n + m) → length old ≡ 2 * (n + m)
+    → Joined re im a 0 n old mid → Joined re im b n m mid x → x ≡ w
+stored-back n m a b re im w old mid x p q e f j k =
     let long : length x ≡ length w = k .long ∙ j .long ∙ f ∙ sym e in
     ext-getD nan x w long
-    (λ i l. parity w x (n + m) i (omega arith) (λ i h. both-at n m a b re im vr vi w old mid x p q e f j k i h (decLt i n)) (ℕ-discrete (i % 2) 0))
+    (λ i l. parity w x (n + m) i (omega arith) (λ i h. both-at n m a b re im w old mid x p q e f j k i h (decLt i n)) (ℕ-discrete (i % 2) 0))
 
 -- ---- load
 pub split-lies : (re im re′ im′ x : List Float) (at base count : ℕ) → Loaded x at base count re im re′ im′ → Lies re′ im′ at x base count
@@ -112,18 +128,26 @@ split-lies re im re′ im′ x at base count s = record {
   im-is = λ j l. let e : at + j - at ≡ j = omega arith in s .im .done (at + j) (omega arith) (omega arith) ∙ rw e;
 }
 
-pub split-half : (re′ im′ x : List Float) (at base count : ℕ) → at + count ≤ 72 → Loaded x at base count (replicate 72 zero32) (replicate 72 zero32) re′ im′ → Half re′ im′ at x base count
-split-half re′ im′ x at base count h s = record {
-  long = s .re .long ∙ simp length-replicate;
-  long′ = s .im .long ∙ simp length-replicate;
+pub lies-kept : (re im re′ im′ : List Float) (from : ℕ) (x : List Float) (base count : ℕ)
+    → ((j : ℕ) → j < count → getD re′ (from + j) nan ≡ getD re (from + j) nan) → ((j : ℕ) → j < count → getD im′ (from + j) nan ≡ getD im (from + j) nan)
+    → Lies re im from x base count → Lies re′ im′ from x base count
+lies-kept re im re′ im′ from x base count f g l = record { re-is = λ j h. f j h ∙ l .re-is j h; im-is = λ j h. g j h ∙ l .im-is j h }
+
+-- a half of zero lanes that is loaded, and the other half's load before or after it
+pub half-loaded : (re im re₀ im₀ x : List Float) (o from base count : ℕ) → from + count ≤ 72 → length re₀ ≡ 144 → length im₀ ≡ 144
+    → ((i : ℕ) → i < 72 → getD re₀ (o + i) nan ≡ zero32) → ((i : ℕ) → i < 72 → getD im₀ (o + i) nan ≡ zero32)
+    → Loaded x (o + from) base count re₀ im₀ re im → Half re im o from x base count
+half-loaded re im re₀ im₀ x o from base count h a b zr zi s = record {
+  long = s .re .long ∙ a;
+  long′ = s .im .long ∙ b;
   room = h;
-  lies = split-lies _ _ re′ im′ x at base count s;
+  lies = split-lies _ _ re im x (o + from) base count s;
   early = record {
-    re-zero = λ k p q. s .re .low k q ∙ getD-replicate 72 k zero32 nan (omega arith);
-    im-zero = λ k p q. s .im .low k q ∙ getD-replicate 72 k zero32 nan (omega arith);
+    re-zero = λ k p q. s .re .low (o + k) (omega arith) ∙ zr k (omega arith);
+    im-zero = λ k p q. s .im .low (o + k) (omega arith) ∙ zi k (omega arith);
   };
   late = record {
-    re-zero = λ k p q. s .re .high k p ∙ getD-replicate 72 k zero32 nan q;
-    im-zero = λ k p q. s .im .high k p ∙ getD-replicate 72 k zero32 nan q;
+    re-zero = λ k p q. s .re .high (o + k) (omega arith) ∙ zr k q;
+    im-zero = λ k p q. s .im .high (o + k) (omega arith) ∙ zi k q;
   };
 }

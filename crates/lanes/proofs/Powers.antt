@@ -5,7 +5,7 @@ use mathlib.Core.List.{List}
 use native.Mathlib.Omega.{arith}
 use native.Mathlib.Nat.{add-zero, add-suc}
 use lib.Ieee.{Float}
-use Rattle.definition.specs.Floats.{zero32}
+use Rattle.types.specs.Bits.{zero32}
 use Rattle.definition.specs.Slices.{power}
 use Rattle.lanes.specs.Ahead.{chainFrom, chainOf, squareAt, Between}
 use Rattle.lanes.specs.Holds.{Lies, Squares}

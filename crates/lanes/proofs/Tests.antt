@@ -14,7 +14,8 @@ use lib.Ieee.{Float, nan, inf, fin, binary32, ofBits, ofFields, odd, up, down, l
 use lib.Ieee.Fits.{down-pos, and-i}
 use lib.Ieee.Scale.{finite}
 use Rattle.laws.specs.Exact.{minus-itself}
-use Rattle.definition.specs.Floats.{_-f_, zero32, one32, tiny, abs, flush}
+use Rattle.types.specs.Bits.{zero32, one32}
+use Rattle.definition.specs.Floats.{_-f_, tiny, abs, flush}
 use Rattle.definition.specs.Slices.{every}
 use Rattle.lanes.specs.Steps.{keptOf, uneven, anyOf}
 

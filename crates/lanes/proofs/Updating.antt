@@ -9,10 +9,10 @@ use lib.Seq.{getD-set-same, getD-set-other, getD-at}
 use lib.Dec.{T}
 use lib.Ieee.{Float, nan}
 use lib.Ieee.Scale.{finite}
-use Rattle.definition.specs.declared.C32.{C32}
-use Rattle.definition.specs.Floats.{zero32, one32}
+use Rattle.types.specs.declared.C32.{C32}
+use Rattle.types.specs.Bits.{zero32, one32}
 use Rattle.definition.specs.Slices.{reAt, imAt, part, tabulate, newRe, newIm, updated, startWeights, every}
-use Rattle.definition.proofs.Every.{length-tabulate}
+use Rattle.definition_laws.proofs.Every.{length-tabulate}
 use Rattle.lanes.proofs.Tests.{every-intro}
 
 part-even : (re im : ℕ → Float) (i : ℕ) → part re im (2 * i) ≡ re i

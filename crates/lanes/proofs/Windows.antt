@@ -6,9 +6,9 @@ use native.Mathlib.Omega.{arith}
 use lib.ListN.{length, getD, take, drop, length-take, length-append, length-drop, List·getD-append}
 use lib.Seq.{getD-append-add, getD-take, getD-drop}
 use lib.Ieee.{Float, nan}
-use Rattle.definition.specs.declared.C32.{C32}
+use Rattle.types.specs.declared.C32.{C32}
 use Rattle.definition.specs.Slices.{reAt, imAt, shifted}
-use Rattle.definition.proofs.Every.{length-shifted}
+use Rattle.definition_laws.proofs.Every.{length-shifted}
 use Rattle.lanes.specs.Holds.{Lies, Window, Past}
 
 -- ---- parts of `shifted`
@@ -59,15 +59,15 @@ module _ (re im : List Float) (p : ℕ) (a : C32) (x : List Float) (base count :
   front-im (suc j) h = let e : p + suc j ≡ p + 1 + j = omega arith in rw e (old .im-is j (omega arith) ∙ sym (more-im j h))
 
 -- a sample, sanitized at `at`, makes the window of that place
-pub window-in : (n m at : ℕ) (xr xi dr di x : List Float) (a : C32) → Past n m (at + 1) xr xi dr di x → getD xr at nan ≡ a .re → getD xi at nan ≡ a .im
-    → Window n m at xr xi dr di (shifted n a x)
-window-in n m at xr xi dr di x a s r i =
+pub window-in : (n m at : ℕ) (xr xi x : List Float) (a : C32) → Past n m (at + 1) xr xi x → getD xr at nan ≡ a .re → getD xi at nan ≡ a .im
+    → Window n m at xr xi (shifted n a x)
+window-in n m at xr xi x a s r i =
     let long : 2 * n ≤ length x = omega (arith, s .taps) in
     let fr = front-re xr xi at a x 0 n (shifted n a x) n r i (s .forth) (omega arith) (shifted-re n a x long) (shifted-im n a x long)
     (λ j h. let e : 0 + j ≡ j = omega arith in rw e (shifted-more-re n a x long j h)) (λ j h. let e : 0 + j ≡ j = omega arith in rw e (shifted-more-im n a x long j h)) in
     let fi = front-im xr xi at a x 0 n (shifted n a x) n r i (s .forth) (omega arith) (shifted-re n a x long) (shifted-im n a x long)
     (λ j h. let e : 0 + j ≡ j = omega arith in rw e (shifted-more-re n a x long j h)) (λ j h. let e : 0 + j ≡ j = omega arith in rw e (shifted-more-im n a x long j h)) in
-    let p : at + 9 ≡ at + 1 + 8 = omega arith in
+    let p : at + 153 ≡ at + 1 + 152 = omega arith in
     record {
       forth = record { re-is = λ j h. let e : 0 + j ≡ j = omega arith in rw e (fr j h); im-is = λ j h. let e : 0 + j ≡ j = omega arith in rw e (fi j h) };
       back = record {
@@ -75,7 +75,6 @@ window-in n m at xr xi dr di x a s r i =
         im-is = λ j h. rw p (s .back .im-is j h ∙ sym (shifted-high-im n a x long (n + j) (omega arith)));
       };
       calm = s .calm;
-      calm′ = s .calm′;
       taps = length-shifted n a x long ∙ s .taps;
     }
 

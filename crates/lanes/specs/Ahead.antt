@@ -6,7 +6,8 @@ use mathlib.Core.List.{List}
 use lib.ListN.{length, getD}
 use lib.Ieee.{Float, nan}
 use lib.Ieee.Scale.{finite}
-use Rattle.definition.specs.Floats.{_+f_, _*f_, zero32}
+use Rattle.types.specs.Bits.{zero32}
+use Rattle.definition.specs.Floats.{_+f_, _*f_}
 use Rattle.definition.specs.Slices.{reAt, imAt}
 
 unfoldable pub heldOf : Float → Bool → Float

@@ -1,29 +1,23 @@
--- The arrays of a run: weights and window, real and imaginary parts apart, and the squares of the feedback window.
+-- The arrays of a run: weights and window, real and imaginary parts apart, and the squares of the window. Feedback lanes from 72 on, their window from 144 on.
 use mathlib.Core.Path.{_≡_}
 use mathlib.Core.List.{List}
 use lib.ListN.{length}
 use lib.Ieee.{Float}
 
 pub record Arrays : Type 0 where
-  -- forward weights, feedback weights
+  -- weights
   pub wr : List Float
   pub wi : List Float
-  pub vr : List Float
-  pub vi : List Float
-  -- forward window, feedback window, and re² + im² of the feedback window
+  -- window, and its re² + im²
   pub xr : List Float
   pub xi : List Float
-  pub dr : List Float
-  pub di : List Float
-  pub dq : List Float
+  pub q : List Float
 
-abbrev pub arrays : List Float → List Float → List Float → List Float → List Float → List Float → List Float → List Float → List Float → Arrays
-arrays wr wi vr vi xr xi dr di dq = record { wr = wr; wi = wi; vr = vr; vi = vi; xr = xr; xi = xi; dr = dr; di = di; dq = dq }
+abbrev pub arrays : List Float → List Float → List Float → List Float → List Float → Arrays
+arrays wr wi xr xi q = record { wr = wr; wi = wi; xr = xr; xi = xi; q = q }
 
--- the window's arrays have 144 places
+-- the window's arrays have 288 places
 pub record Long (a : Arrays) : Type 0 where
-  pub xr : length (a .xr) ≡ 144
-  pub xi : length (a .xi) ≡ 144
-  pub dr : length (a .dr) ≡ 144
-  pub di : length (a .di) ≡ 144
-  pub dq : length (a .dq) ≡ 144
+  pub xr : length (a .xr) ≡ 288
+  pub xi : length (a .xi) ≡ 288
+  pub q : length (a .q) ≡ 288

@@ -6,9 +6,9 @@ use mathlib.Core.List.{List}
 use lib.ListN.{getD}
 use lib.Dec.{eqb}
 use lib.Ieee.{Float, nan}
-use Rattle.definition.specs.declared.EqMode.{EqMode}
-use Rattle.definition.specs.declared.EqMode.the-variants.{Cma, Decision}
-use Rattle.definition.specs.declared.EqualizeState.{EqualizeState}
+use Rattle.types.specs.declared.EqMode.{EqMode}
+use Rattle.types.specs.declared.EqMode.the-variants.{Cma, Decision}
+use Rattle.types.specs.declared.EqualizeState.{EqualizeState}
 use Rattle.definition.specs.Sample.{neverSwitch, stepSize}
 
 unfoldable pub leftIn : EqMode → ℕ → ℕ → ℕ

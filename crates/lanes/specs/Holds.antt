@@ -7,8 +7,9 @@ use lib.ListN.{length, getD}
 use lib.Dec.{T}
 use lib.Ieee.{Float, nan, inf}
 use lib.Ieee.Scale.{finite}
-use Rattle.definition.specs.Floats.{zero32, tiny, norm, complex}
-use Rattle.definition.specs.declared.C32.{C32}
+use Rattle.types.specs.Bits.{zero32}
+use Rattle.definition.specs.Floats.{tiny, norm, complex}
+use Rattle.types.specs.declared.C32.{C32}
 use Rattle.definition.specs.Sample.{Equalizer, feedback, sanitized}
 use Rattle.definition.specs.Slices.{reAt, imAt}
 use Rattle.lanes.specs.Arrays.{Arrays, Long}
@@ -18,45 +19,43 @@ pub record Lies (re im : List Float) (from : ℕ) (x : List Float) (base count :
   pub re-is : (j : ℕ) → j < count → getD re (from + j) nan ≡ reAt x (base + j)
   pub im-is : (j : ℕ) → j < count → getD im (from + j) nan ≡ imAt x (base + j)
 
--- +0 in the lanes from .. to
-pub record Blank (re im : List Float) (from to : ℕ) : Type 0 where
-  pub re-zero : (i : ℕ) → from ≤ i → i < to → getD re i nan ≡ zero32
-  pub im-zero : (i : ℕ) → from ≤ i → i < to → getD im i nan ≡ zero32
+-- +0 in the lanes from .. to of the part that starts at o
+pub record Blank (re im : List Float) (o from to : ℕ) : Type 0 where
+  pub re-zero : (i : ℕ) → from ≤ i → i < to → getD re (o + i) nan ≡ zero32
+  pub im-zero : (i : ℕ) → from ≤ i → i < to → getD im (o + i) nan ≡ zero32
 
 -- the first `size` values are finite
 pub record Calm (re im : List Float) (size : ℕ) : Type 0 where
   pub re-fine : (i : ℕ) → i < size → T (finite (getD re i nan))
   pub im-fine : (i : ℕ) → i < size → T (finite (getD im i nan))
 
--- one half of the weights: lanes from .. from + count are w's from base on, the others +0
-pub record Half (re im : List Float) (from : ℕ) (w : List Float) (base count : ℕ) : Type 0 where
-  pub long : length re ≡ 72
-  pub long′ : length im ≡ 72
+-- one half of the weights, the 72 lanes from o on: lanes from .. from + count are w's from base on, the others +0
+pub record Half (re im : List Float) (o from : ℕ) (w : List Float) (base count : ℕ) : Type 0 where
+  pub long : length re ≡ 144
+  pub long′ : length im ≡ 144
   pub room : from + count ≤ 72
-  pub lies : Lies re im from w base count
-  pub early : Blank re im 0 from
-  pub late : Blank re im (from + count) 72
+  pub lies : Lies re im (o + from) w base count
+  pub early : Blank re im o 0 from
+  pub late : Blank re im o (from + count) 72
 
 -- the split weights
-pub record Weights (n m : ℕ) (wr wi vr vi w : List Float) : Type 0 where
-  pub forth : Half wr wi 0 w 0 n
-  pub back : Half vr vi (n % 8) w n m
+pub record Weights (n m : ℕ) (wr wi w : List Float) : Type 0 where
+  pub forth : Half wr wi 0 0 w 0 n
+  pub back : Half wr wi 72 (n % 8) w n m
   pub taps : length w ≡ 2 * (n + m)
 
--- the window h, from the place `at` on, and its feedback part from at + 9 on
-pub record Window (n m at : ℕ) (xr xi dr di h : List Float) : Type 0 where
+-- the window h, from the place `at` on, and its feedback part from 144 + at + 9 on
+pub record Window (n m at : ℕ) (xr xi h : List Float) : Type 0 where
   pub forth : Lies xr xi at h 0 n
-  pub back : Lies dr di (at + 9) h n m
-  pub calm : Calm xr xi 144
-  pub calm′ : Calm dr di 144
+  pub back : Lies xr xi (at + 153) h n m
+  pub calm : Calm xr xi 288
   pub taps : length h ≡ 2 * (n + m)
 
--- the window x before a sample is taken in: from the place p on, its feedback part from p + 8 on
-pub record Past (n m p : ℕ) (xr xi dr di x : List Float) : Type 0 where
+-- the window x before a sample is taken in: from the place p on, its feedback part from 144 + p + 8 on
+pub record Past (n m p : ℕ) (xr xi x : List Float) : Type 0 where
   pub forth : Lies xr xi p x 0 n
-  pub back : Lies dr di (p + 8) x n m
-  pub calm : Calm xr xi 144
-  pub calm′ : Calm dr di 144
+  pub back : Lies xr xi (p + 152) x n m
+  pub calm : Calm xr xi 288
   pub taps : length x ≡ 2 * (n + m)
 
 -- re² + im² of count numbers of x from base on, in q from `from` on
@@ -65,9 +64,9 @@ pub record Squares (q : List Float) (from : ℕ) (x : List Float) (base count : 
 
 -- THE REPRESENTATION: what the arrays hold of an equalizer, before the sample that goes in at p − 1
 pub record Holds (n m p : ℕ) (a : Arrays) (q : Equalizer) : Type 0 where
-  pub weights : Weights n m (a .wr) (a .wi) (a .vr) (a .vi) (q .weights)
-  pub past : Past n m p (a .xr) (a .xi) (a .dr) (a .di) (q .window)
-  pub squares : Squares (a .dq) (p + 8) (q .window) n m
+  pub weights : Weights n m (a .wr) (a .wi) (q .weights)
+  pub past : Past n m p (a .xr) (a .xi) (q .window)
+  pub squares : Squares (a .q) (p + 152) (q .window) n m
   pub fed-back : feedback q ≡ m
   pub long : Long a
 
@@ -77,10 +76,10 @@ pub record Put (at : ℕ) (x : C32) (xr xi : List Float) : Type 0 where
   pub im : getD xi at nan ≡ sanitized x .im
 
 -- the limits of one half's lanes
-pub record Limits (limit : List Float) (from count : ℕ) : Type 0 where
-  pub inside : (j : ℕ) → j < count → getD limit (from + j) nan ≡ tiny
-  pub early : (i : ℕ) → i < from → getD limit i nan ≡ inf false
-  pub late : (i : ℕ) → from + count ≤ i → i < 72 → getD limit i nan ≡ inf false
+pub record Limits (limit : List Float) (o from count : ℕ) : Type 0 where
+  pub inside : (j : ℕ) → j < count → getD limit (o + (from + j)) nan ≡ tiny
+  pub early : (i : ℕ) → i < from → getD limit (o + i) nan ≡ inf false
+  pub late : (i : ℕ) → from + count ≤ i → i < 72 → getD limit (o + i) nan ≡ inf false
 
 -- the lanes of the sums and of the steps
 pub record Shaped (n m lanes more quads mquads : ℕ) : Type 0 where

@@ -1,4 +1,4 @@
--- Arrays: the nine arrays. Holds: what they hold of an equalizer. Split, Steps, Ahead, Clock, Load: what the loops compute, by index.
+-- Arrays: the five arrays. Holds: what they hold of an equalizer. Split, Steps, Ahead, Clock, Load: what the loops compute, by index.
 -- Adapts, Measures, Absorbs: the same in the definition's words, for arrays that hold an equalizer.
 pub mod Arrays
 pub mod Split

@@ -10,8 +10,8 @@ use Rattle.definition.specs.Floats.{tiny}
 use Rattle.definition.specs.Slices.{reAt, imAt}
 use Rattle.lanes.specs.Ahead.{Between}
 
-unfoldable pub limitAt : ℕ → ℕ → ℕ → Float
-limitAt from to i = cond (ltb i from) (inf false) (cond (ltb i to) tiny (inf false))
+unfoldable pub limitAt : ℕ → ℕ → ℕ → ℕ → Float
+limitAt n from to i = cond (ltb i n) tiny (cond (ltb i from) (inf false) (cond (ltb i to) tiny (inf false)))
 
 -- count numbers of x, from `from` on, are those of the lanes from `at` on; the others are as they were
 pub record Joined (re im : List Float) (at from count : ℕ) (old x : List Float) : Type 0 where

@@ -3,7 +3,7 @@ use Prim.Native.Nat.{ℕ, _+_, _%_}
 use mathlib.Core.Path.{_≡_}
 use mathlib.Core.List.{List}
 use lib.Ieee.{Float}
-use Rattle.definition.specs.declared.C32.{C32}
+use Rattle.types.specs.declared.C32.{C32}
 use Rattle.definition.specs.Slices.{filterSum, power}
 use Rattle.lanes.specs.Arrays.{Arrays}
 use Rattle.lanes.specs.Holds.{Weights, Window, Squares, Shaped}
@@ -12,9 +12,9 @@ use Rattle.lanes.specs.Holds.{Weights, Window, Squares, Shaped}
 pub record Seen (n m lanes more front quads mquads at : ℕ) (a : Arrays) (forward : Float) (w h : List Float) : Type 0 where
   pub shaped : Shaped n m lanes more quads mquads
   pub front-is : front ≡ n % 8
-  pub weights : Weights n m (a .wr) (a .wi) (a .vr) (a .vi) w
-  pub window : Window n m at (a .xr) (a .xi) (a .dr) (a .di) h
-  pub squares : Squares (a .dq) (at + 9) h n m
+  pub weights : Weights n m (a .wr) (a .wi) w
+  pub window : Window n m at (a .xr) (a .xi) h
+  pub squares : Squares (a .q) (at + 153) h n m
   pub power-is : forward ≡ power h n
 
 pub record Measures (m lanes more front at : ℕ) (a : Arrays) (forward : Float) (y : C32) (all : Float) : Type 0 where

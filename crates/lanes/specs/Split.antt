@@ -4,15 +4,16 @@ use mathlib.Core.Path.{_≡_}
 use mathlib.Core.List.{List}
 use lib.ListN.{length, getD}
 use lib.Ieee.{Float, nan}
-use Rattle.definition.specs.Floats.{_+f_, _-f_, _*f_, zero32}
+use Rattle.types.specs.Bits.{zero32}
+use Rattle.definition.specs.Floats.{_+f_, _-f_, _*f_}
 use Rattle.definition.specs.Slices.{tree}
 
--- window value a + i times weight i
-abbrev pub splitRe : List Float → List Float → List Float → List Float → ℕ → ℕ → Float
-splitRe xr xi wr wi a i = (getD xr (a + i) nan *f getD wr i nan) -f (getD xi (a + i) nan *f getD wi i nan)
+-- window value a + i times weight o + i
+abbrev pub splitRe : List Float → List Float → List Float → List Float → ℕ → ℕ → ℕ → Float
+splitRe xr xi wr wi a o i = (getD xr (a + i) nan *f getD wr (o + i) nan) -f (getD xi (a + i) nan *f getD wi (o + i) nan)
 
-abbrev pub splitIm : List Float → List Float → List Float → List Float → ℕ → ℕ → Float
-splitIm xr xi wr wi a i = (getD xr (a + i) nan *f getD wi i nan) +f (getD xi (a + i) nan *f getD wr i nan)
+abbrev pub splitIm : List Float → List Float → List Float → List Float → ℕ → ℕ → ℕ → Float
+splitIm xr xi wr wi a o i = (getD xr (a + i) nan *f getD wi (o + i) nan) +f (getD xi (a + i) nan *f getD wr (o + i) nan)
 
 -- partial k from a on: a, then p k, p (8 + k), .., b of them
 unfoldable pub laneFrom : Float → (ℕ → Float) → ℕ → ℕ → Float

@@ -5,7 +5,8 @@ use mathlib.Core.Bool.{Bool, false, cond, _&&_, _||_}
 use mathlib.Core.List.{List}
 use lib.ListN.{length, getD}
 use lib.Ieee.{Float, nan, lt, ne, neg}
-use Rattle.definition.specs.Floats.{_+f_, _-f_, _*f_, zero32, one32}
+use Rattle.types.specs.Bits.{zero32, one32}
+use Rattle.definition.specs.Floats.{_+f_, _-f_, _*f_}
 
 unfoldable pub keptOf : Float → Float → Float
 keptOf v l = cond (lt v l && lt (neg l) v) zero32 v
@@ -30,15 +31,30 @@ unfoldable pub anyOf : ℕ → (ℕ → Bool) → Bool
 anyOf zero p = false
 anyOf (suc n) p = anyOf n p || p n
 
--- the first n elements of old replaced by f
-pub record Mapped (f : ℕ → Float) (n : ℕ) (old l : List Float) : Type 0 where
+-- n elements of old, from o on, replaced by f
+pub record Mapped (f : ℕ → Float) (o n : ℕ) (old l : List Float) : Type 0 where
   pub long : length l ≡ length old
-  pub done : (k : ℕ) → k < n → getD l k nan ≡ f k
-  pub kept : (k : ℕ) → n ≤ k → getD l k nan ≡ getD old k nan
+  pub done : (k : ℕ) → k < n → getD l (o + k) nan ≡ f k
+  pub low : (k : ℕ) → k < o → getD l k nan ≡ getD old k nan
+  pub high : (k : ℕ) → o + n ≤ k → getD l k nan ≡ getD old k nan
 
--- lane i of a step
-abbrev pub stepRe : List Float → List Float → List Float → List Float → ℕ → Float → Float → ℕ → Float
-stepRe w limit xr xi at gr gi i = laneRe (getD w i nan) (getD limit i nan) (getD xr (at + i) nan) (getD xi (at + i) nan) gr gi
+-- the same, said of the 72 lanes from o on alone
+pub record Within (f : ℕ → Float) (o n : ℕ) (old l : List Float) : Type 0 where
+  pub long : length l ≡ length old
+  pub done : (k : ℕ) → k < n → getD l (o + k) nan ≡ f k
+  pub kept : (k : ℕ) → n ≤ k → k < 72 → getD l (o + k) nan ≡ getD old (o + k) nan
 
-abbrev pub stepIm : List Float → List Float → List Float → List Float → ℕ → Float → Float → ℕ → Float
-stepIm w limit xr xi at gr gi i = laneIm (getD w i nan) (getD limit i nan) (getD xr (at + i) nan) (getD xi (at + i) nan) gr gi
+-- lane o + i of a step
+abbrev pub stepRe : List Float → List Float → List Float → List Float → ℕ → ℕ → Float → Float → ℕ → Float
+stepRe w limit xr xi at o gr gi i = laneRe (getD w (o + i) nan) (getD limit (o + i) nan) (getD xr (at + i) nan) (getD xi (at + i) nan) gr gi
+
+abbrev pub stepIm : List Float → List Float → List Float → List Float → ℕ → ℕ → Float → Float → ℕ → Float
+stepIm w limit xr xi at o gr gi i = laneIm (getD w (o + i) nan) (getD limit (o + i) nan) (getD xr (at + i) nan) (getD xi (at + i) nan) gr gi
+
+-- whether one of the 72 lanes from o on is a weight that is not finite
+unfoldable pub brokenIn : List Float → List Float → List Float → ℕ → Bool
+brokenIn wr wi limit o = anyOf 72 (λ i. brokenAt (getD wr (o + i) nan) (getD wi (o + i) nan) (getD limit (o + i) nan))
+
+-- lane o + i cleared
+abbrev pub clearIn : List Float → List Float → Bool → ℕ → ℕ → Float
+clearIn w limit all o i = clearOf (getD w (o + i) nan) (getD limit (o + i) nan) all

@@ -7,8 +7,8 @@ ghost use Rattle.definition.specs.Sample.{stepSize};
 ghost use Rattle.lanes.specs.Ahead.{squareAt, chainOf, chainFrom, Between, Entered, heldOf};
 ghost use Rattle.dot.specs.Added.{Added};
 ghost use Rattle.lanes.specs.Clock.{cmaLeft, Sized};
-use definition::EqMode;
-use definition::EqualizeState;
+use types::EqMode;
+use types::EqualizeState;
 
 // The part of a sample that goes in: +0 where the sample is not finite.
 fn held(a: f32, ok: bool) -> f32
@@ -18,8 +18,8 @@ fn held(a: f32, ok: bool) -> f32
 }
 
 // The samples of a run into the window, newest first; a sample that is not finite as zero.
-pub fn enter(xr: &mut [f32; 144], xi: &mut [f32; 144], input: &[f32])
-    requires { ⌜ (length (now xr) ≡ 144) × (length (now xi) ≡ 144) ⌝ }
+pub fn enter(xr: &mut [f32; 288], xi: &mut [f32; 288], input: &[f32])
+    requires { ⌜ (length (now xr) ≡ 288) × (length (now xi) ≡ 288) ⌝ }
     requires { ⌜ length (now input) ≤ 128 ⌝ }
     ensures { λ _. ⌜ Entered (now (input .entry)) (now (xr .entry)) (now (xi .entry)) (now (xr .exit)) (now (xi .exit)) ⌝ }
 {
@@ -36,9 +36,9 @@ pub fn enter(xr: &mut [f32; 144], xi: &mut [f32; 144], input: &[f32])
 }
 
 // re² + im² of the window's values.
-pub fn squares(q: &mut [f32; 144], xr: &[f32; 144], xi: &[f32; 144], from: usize, to: usize)
-    requires { ⌜ length (now q) ≡ 144 ⌝ }
-    requires { ⌜ (from ≤ to) × (to ≤ 144) ⌝ }
+pub fn squares(q: &mut [f32; 288], xr: &[f32; 288], xi: &[f32; 288], from: usize, to: usize)
+    requires { ⌜ length (now q) ≡ 288 ⌝ }
+    requires { ⌜ (from ≤ to) × (to ≤ 288) ⌝ }
     ensures { λ _. ⌜ Between (squareAt (now (xr .entry)) (now (xi .entry))) from to (now (q .entry)) (now (q .exit)) ⌝ }
 {
     let mut j = from;
@@ -49,9 +49,9 @@ pub fn squares(q: &mut [f32; 144], xr: &[f32; 144], xi: &[f32; 144], from: usize
 }
 
 // Adds sixteen values to sixteen sums.
-fn add16(acc: &mut [f32; 16], q: &[f32; 144], from: usize)
+fn add16(acc: &mut [f32; 16], q: &[f32; 288], from: usize)
     requires { ⌜ length (now acc) ≡ 16 ⌝ }
-    requires { ⌜ from + 16 ≤ 144 ⌝ }
+    requires { ⌜ from + 16 ≤ 288 ⌝ }
     ensures { λ _. ⌜ Added (λ i. getD (now (q .entry)) i nan) from 16 (now (acc .entry)) (now (acc .exit)) ⌝ }
 {
     let mut k = 0usize;
@@ -74,7 +74,7 @@ fn put16(power: &mut [f32; 64], acc: &[f32; 16], from: usize)
 }
 
 // The powers of sixteen windows side by side.
-fn tile(power: &mut [f32; 64], q: &[f32; 144], j: usize, n: usize)
+fn tile(power: &mut [f32; 64], q: &[f32; 288], j: usize, n: usize)
     requires { ⌜ length (now power) ≡ 64 ⌝ }
     requires { ⌜ (j ≤ 48) × (n ≤ 64) ⌝ }
     ensures { λ _. ⌜ Between (λ i. chainOf (now (q .entry)) i n) j (j + 16) (now (power .entry)) (now (power .exit)) ⌝ }
@@ -88,7 +88,7 @@ fn tile(power: &mut [f32; 64], q: &[f32; 144], j: usize, n: usize)
     put16(power, &acc, j);
 }
 
-pub fn powers(power: &mut [f32; 64], q: &[f32; 144], from: usize, n: usize)
+pub fn powers(power: &mut [f32; 64], q: &[f32; 288], from: usize, n: usize)
     requires { ⌜ length (now power) ≡ 64 ⌝ }
     requires { ⌜ (n ≤ 64) × ((from ≤ 64) × (from % 16 ≡ 0)) ⌝ }
     ensures { λ _. ⌜ Between (λ i. chainOf (now (q .entry)) i n) from 64 (now (power .entry)) (now (power .exit)) ⌝ }
@@ -114,8 +114,8 @@ fn divide(steps: &mut [f32; 64], power: &[f32; 64], from: usize, to: usize, mu: 
 }
 
 // p, then q[from], q[from + 1] .. added in order.
-pub fn chain(q: &[f32; 144], from: usize, count: usize, forward: f32) -> f32
-    requires { ⌜ from + count ≤ 144 ⌝ }
+pub fn chain(q: &[f32; 288], from: usize, count: usize, forward: f32) -> f32
+    requires { ⌜ from + count ≤ 288 ⌝ }
     ensures { λ r. ⌜ r ≡ chainFrom forward (now (q .entry)) from count ⌝ }
 {
     let mut p = forward;

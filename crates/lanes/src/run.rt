@@ -7,7 +7,7 @@ ghost use Rattle.lanes.specs.Arrays.{arrays};
 ghost use Rattle.lanes.specs.Measures.{Measures};
 use crate::filter;
 use crate::prepare;
-use definition::C32;
+use types::C32;
 
 // The filter sum and the window's power.
 pub struct Measured {
@@ -22,28 +22,24 @@ pub fn measure(
     more: usize,
     front: usize,
     at: usize,
-    wr: &[f32; 72],
-    wi: &[f32; 72],
-    xr: &[f32; 144],
-    xi: &[f32; 144],
-    vr: &[f32; 72],
-    vi: &[f32; 72],
-    dr: &[f32; 144],
-    di: &[f32; 144],
-    dq: &[f32; 144],
+    wr: &[f32; 144],
+    wi: &[f32; 144],
+    xr: &[f32; 288],
+    xi: &[f32; 288],
+    q: &[f32; 288],
     forward: f32,
 ) -> Measured
     requires { ⌜ (at ≤ 63) × ((front < 8) × (m ≤ 63)) ⌝ }
     requires { ⌜ (lanes ≤ 72) × ((lanes % 8 ≡ 0) × ((more ≤ 72) × (more % 8 ≡ 0))) ⌝ }
-    ensures { λ r. ⌜ Measures m lanes more front at (arrays (now (wr .entry)) (now (wi .entry)) (now (vr .entry)) (now (vi .entry)) (now (xr .entry)) (now (xi .entry)) (now (dr .entry)) (now (di .entry)) (now (dq .entry))) forward (r .y) (r .power) ⌝ }
+    ensures { λ r. ⌜ Measures m lanes more front at (arrays (now (wr .entry)) (now (wi .entry)) (now (xr .entry)) (now (xi .entry)) (now (q .entry))) forward (r .y) (r .power) ⌝ }
 {
-    let back = at + 9;
+    let back = at + 153;
     let bt = back - front;
     let half = m / 2;
-    let p1 = prepare::chain(dq, back, half, forward);
-    let re = filter::sum_re(xr, xi, wr, wi, at, lanes, dr, di, vr, vi, bt, more);
-    let p2 = prepare::chain(dq, back + half, m - half, p1);
-    let im = filter::sum_im(xr, xi, wr, wi, at, lanes, dr, di, vr, vi, bt, more);
+    let p1 = prepare::chain(q, back, half, forward);
+    let re = filter::sum_re(xr, xi, wr, wi, at, lanes, bt, more);
+    let p2 = prepare::chain(q, back + half, m - half, p1);
+    let im = filter::sum_im(xr, xi, wr, wi, at, lanes, bt, more);
     Measured {
         y: C32 { re, im },
         power: p2,
@@ -51,13 +47,13 @@ pub fn measure(
 }
 
 // The fed-back sample into the feedback window.
-pub fn feed(dr: &mut [f32; 144], di: &mut [f32; 144], dq: &mut [f32; 144], j: usize, v: C32)
-    requires { ⌜ j < 144 ⌝ }
-    ensures { λ _. ⌜ now (dr .exit) ≡ set (now (dr .entry)) j (v .re) ⌝ }
-    ensures { λ _. ⌜ now (di .exit) ≡ set (now (di .entry)) j (v .im) ⌝ }
-    ensures { λ _. ⌜ now (dq .exit) ≡ set (now (dq .entry)) j (norm v) ⌝ }
+pub fn feed(xr: &mut [f32; 288], xi: &mut [f32; 288], q: &mut [f32; 288], j: usize, v: C32)
+    requires { ⌜ j < 288 ⌝ }
+    ensures { λ _. ⌜ now (xr .exit) ≡ set (now (xr .entry)) j (v .re) ⌝ }
+    ensures { λ _. ⌜ now (xi .exit) ≡ set (now (xi .entry)) j (v .im) ⌝ }
+    ensures { λ _. ⌜ now (q .exit) ≡ set (now (q .entry)) j (norm v) ⌝ }
 {
-    dr[j] = v.re;
-    di[j] = v.im;
-    dq[j] = v.re * v.re + v.im * v.im;
+    xr[j] = v.re;
+    xi[j] = v.im;
+    q[j] = v.re * v.re + v.im * v.im;
 }

@@ -11,7 +11,8 @@ use lib.Ieee.{Float, binary32, ofBits, ofFields, odd, ofInt}
 use Rattle.laws.specs.Bound.{AtMost, Within, Held, round-at-most, add-at-most, mul-at-most, power-held}
 use Rattle.tables.specs.Table.{cosAt}
 use Rattle.tables.proofs.Rules.{at-most-one, neighbours}
-use Rattle.definition.specs.Floats.{f32, _-f_, _*f_}
+use Rattle.types.specs.Bits.{f32}
+use Rattle.definition.specs.Floats.{_-f_, _*f_}
 use Rattle.definition.specs.Phase.{lowPart, lineAt, interpPair}
 
 -- 2^-20 is 2^129 of the smallest values, 2^-149

@@ -9,7 +9,7 @@ use borrow.Author.Tests.{ne-eqb}
 use lib.Count.{trailingZeros}
 use lib.Ieee.{binary32, inFloat, ofBits, ofFields, odd, ofInt, add, sub, mul, neg, sum, round, units, size, span, climb}
 use Rattle.tables.specs.Table.{cosAt, cosBits}
-use Rattle.definition.specs.Floats.{zero32, one32}
+use Rattle.types.specs.Bits.{zero32, one32}
 use Rattle.definition.specs.Phase.{lowPart, lineAt, interpPair, cosSin}
 
 pub pair-at-zero : interpPair 0 ≡ record { c = one32; s = zero32 }

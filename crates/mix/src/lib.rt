@@ -1,5 +1,5 @@
 // Cosine and sine of a phase, by the table and the straight line between two entries, in f32 without FMA.
-use definition::CosSin;
+use types::CosSin;
 ghost use mathlib.Core.Path.{_≡_};
 ghost use Prim.Native.Nat.{_<_, _+_, _%_};
 ghost use Rattle.tables.specs.Table.{cosBits};

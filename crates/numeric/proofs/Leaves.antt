@@ -11,7 +11,8 @@ use lib.Ieee.Fits.{down-pos}
 use lib.Ieee.Scale.{finite}
 use Rattle.laws.specs.Exact.{minus-itself}
 use Rattle.laws.specs.Order.{number, le-of-not-lt, le-itself, neg-number}
-use Rattle.definition.specs.Floats.{abs, zero32, tiny, flush, clip}
+use Rattle.types.specs.Bits.{zero32}
+use Rattle.definition.specs.Floats.{abs, tiny, flush, clip}
 
 -- ---- `is_finite`
 

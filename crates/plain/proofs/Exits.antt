@@ -3,14 +3,15 @@ use mathlib.Core.Path.{_≡_}
 use mathlib.Core.Bool.{Bool, true, false, cond, _&&_}
 use lib.Ieee.{Float}
 use lib.Ieee.Scale.{finite}
-use Rattle.definition.specs.declared.C32.{C32}
-use Rattle.definition.specs.declared.CosSin.{CosSin}
-use Rattle.definition.specs.declared.EqMode.{EqMode}
-use Rattle.definition.specs.declared.EqMode.the-variants.{Cma, Decision}
-use Rattle.definition.specs.declared.EqConstellation.{EqConstellation}
-use Rattle.definition.specs.declared.EqParams.{EqParams}
-use Rattle.definition.specs.declared.Update.the-variants.{Step, Hold}
-use Rattle.definition.specs.Floats.{_+f_, _-f_, _*f_, zero32, one32, mseAlpha, flush, zeroC, finiteC, clipC}
+use Rattle.types.specs.declared.C32.{C32}
+use Rattle.types.specs.declared.CosSin.{CosSin}
+use Rattle.types.specs.declared.EqMode.{EqMode}
+use Rattle.types.specs.declared.EqMode.the-variants.{Cma, Decision}
+use Rattle.types.specs.declared.EqConstellation.{EqConstellation}
+use Rattle.types.specs.declared.EqParams.{EqParams}
+use Rattle.types.specs.declared.Update.the-variants.{Step, Hold}
+use Rattle.types.specs.Bits.{zero32, one32}
+use Rattle.definition.specs.Floats.{_+f_, _-f_, _*f_, mseAlpha, flush, zeroC, finiteC, clipC}
 use Rattle.definition.specs.Points.{radius}
 use Rattle.definition.specs.Turns.{rotated}
 use Rattle.definition.specs.Sample.{sanitized, mseAfter, godardError, errorOf, fedOf, muOf, live, updateOf, phaseError}

@@ -9,15 +9,15 @@ use lib.ListN.{length, take, drop, getD, set, length-set, drop-of-length-le}
 use lib.Seq.{take-suc-set, drop-cons, take-all}
 use lib.Dec.{T}
 use lib.Ieee.{Float, nan}
-use Rattle.definition.specs.declared.C32.{C32}
-use Rattle.definition.specs.declared.EqualizeState.{EqualizeState}
+use Rattle.types.specs.declared.C32.{C32}
+use Rattle.types.specs.declared.EqualizeState.{EqualizeState}
 use Rattle.definition.specs.Floats.{complex}
 use Rattle.definition.specs.Slices.{samplesOf}
 use Rattle.definition.specs.Packed.{equalizer, Shaped, Ran}
 use Rattle.definition.specs.Sample.{Equalizer, Did, Out, sampleDef}
 use Rattle.definition.specs.Rules.{acceptedDef}
 use Rattle.definition.specs.Run.{Run, ahead, runDef, floatsOf, marksOf}
-use Rattle.definition.proofs.Running.{take-two, samples-cons, accepted-after, floats-cons, marks-cons, run-cons}
+use Rattle.definition_laws.proofs.Running.{take-two, samples-cons, accepted-after, floats-cons, marks-cons, run-cons}
 use Rattle.plain.specs.Pieces.{did}
 use Rattle.plain.specs.declared.Sampled.{Sampled}
 

@@ -9,41 +9,38 @@ use lib.ListN.{length, take, drop, length-drop, drop-of-length-le}
 use lib.Seq.{take-all}
 use lib.Dec.{T}
 use lib.Ieee.{Float}
-use Rattle.definition.specs.declared.C32.{C32}
-use Rattle.definition.specs.declared.CosSin.{CosSin}
-use Rattle.definition.specs.declared.EqualizeState.{EqualizeState}
-use Rattle.definition.specs.declared.Update.{Update}
+use Rattle.types.specs.declared.C32.{C32}
+use Rattle.types.specs.declared.CosSin.{CosSin}
+use Rattle.types.specs.declared.EqualizeState.{EqualizeState}
+use Rattle.types.specs.declared.Update.{Update}
 use Rattle.definition.specs.Floats.{zeroC, finiteC, norm, minusC, scaledC}
 use Rattle.definition.specs.Slices.{complexLength, shifted, filterSum, dotComplex, power}
 use Rattle.definition.specs.Phase.{cosSin}
 use Rattle.definition.specs.Points.{decide}
 use Rattle.definition.specs.Turns.{derotated}
 use Rattle.definition.specs.Packed.{equalizer}
-use Rattle.definition.specs.Sample.{Equalizer, Did, Heard, allTaps, feedback, forward, sanitized, step1, step2, errorOf, fedOf, muOf, stepSize, live, updateOf, adapted, phaseError, tracked, hear, heardAs, passedBy, step3, fedIn, advance, step8, sampleDef}
+use Rattle.definition.specs.Sample.{Equalizer, Did, withRunning, allTaps, feedback, forward, sanitized, step1, step2, errorOf, fedOf, muOf, stepSize, live, updateOf, adapted, phaseError, tracked, hear, heardAs, passedBy, step3, fedIn, advance, step8, sampleDef}
 use Rattle.definition.specs.Sample as sample
 use Rattle.definition.specs.Rules.{ruleR4, acceptedDef}
-use Rattle.definition.proofs.Every.{length-shifted}
-use Rattle.definition.proofs.Parts.{is-true}
-use Rattle.definition.proofs.Accept.{Accepted, accepted-parts, shape}
-use Rattle.plain.specs.Pieces.{Sized, heardWith, stage, did}
+use Rattle.definition_laws.proofs.Every.{length-shifted}
+use Rattle.definition_laws.proofs.Parts.{is-true}
+use Rattle.definition_laws.proofs.Accept.{Accepted, accepted-parts, shape}
+use Rattle.plain.specs.Pieces.{Sized, stage, did}
+use Rattle.steps.specs.declared.Stepped.{Stepped}
+use Rattle.steps.specs.declared.Track.{Track}
+use Rattle.steps.specs.Step.{trackOf, updateIf, stepAt, stepWith}
 use Rattle.plain.specs.declared.Stage.{Stage}
 use Rattle.plain.specs.declared.Sampled.{Sampled}
 
 -- ---- steps 4 to 7
 
-module _ (s : EqualizeState) (w h : List Float) (y : C32) (t : CosSin) (z d : C32) (n f : ℕ) where
-  pub heard-with : (ed e fed : C32) (F P : Float) (u : Update) (v : List Float) (x : EqualizeState)
-      → ed ≡ minusC z d → e ≡ errorOf (s .mode) (s .params .constellation) y ed t → F ≡ power h f → P ≡ power h n
-      → u ≡ updateOf F (scaledC (stepSize (muOf (s .mode) (s .params)) P) e) → v ≡ adapted u n f w h
-      → fed ≡ cond (live F) (fedOf (s .mode) d t) zeroC → x ≡ tracked s (norm ed) (phaseError z d)
-      → _≡_ {A = sample.Stage} (record { state = x; weights = v; out = z; fed = fed; mark = 0 }) (heardAs s w n f h (heardWith s n f h y t z d))
-  unfolding heardAs
-  heard-with ed e fed F P u v x p1 p2 p3 p4 p5 p6 p7 p8 = rw (p8, p6, p7, p5, p2, p1, p3, p4)
-
-  pub heard-is : (k : sample.Stage) → t ≡ cosSin (s .phase) → z ≡ derotated y t → d ≡ decide (s .params .constellation) z
-      → k ≡ heardAs s w n f h (heardWith s n f h y t z d) → k ≡ heardAs s w n f h (hear s n f h y)
-  unfolding hear
-  heard-is k a b c e = e ∙ rw (c, b, a)
+module _ (s : EqualizeState) (w h : List Float) (y : C32) (n f : ℕ) where
+  pub heard-by : (t : CosSin) (F P size : Float) (r : Stepped) (v : List Float) (x : EqualizeState)
+      → F ≡ power h f → P ≡ power h n → size ≡ stepSize (muOf (s .mode) (s .params)) P → t ≡ cosSin (s .phase) → r ≡ stepWith s t y F size
+      → v ≡ adapted (r .update) n f w h → x ≡ withRunning s (s .mode) (s .count) (r .track .mse) (r .track .phase) (r .track .freq)
+      → _≡_ {A = sample.Stage} (record { state = x; weights = v; out = r .z; fed = r .fed; mark = 0 }) (heardAs s w n f h (hear s n f h y))
+  unfolding stepWith stepAt trackOf updateIf heardAs hear tracked updateOf
+  heard-by t F P size r v x p1 p2 p3 p4 p5 p6 p7 = rw (p7, p6, p5, p4, p3, p2, p1)
 
 -- ---- steps 2 and 3
 

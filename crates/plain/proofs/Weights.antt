@@ -5,8 +5,8 @@ use mathlib.Core.Bool.{Bool, true, false}
 use mathlib.Core.List.{List}
 use lib.Ieee.{Float}
 use lib.Ieee.Scale.{finite}
-use Rattle.definition.specs.declared.Update.{Update}
-use Rattle.definition.specs.declared.Update.the-variants.{Step, Hold}
+use Rattle.types.specs.declared.Update.{Update}
+use Rattle.types.specs.declared.Update.the-variants.{Step, Hold}
 use Rattle.definition.specs.Floats.{complex}
 use Rattle.definition.specs.Slices.{every, updated, startWeights}
 use Rattle.definition.specs.Sample.{resetUnless, adapted}

@@ -4,9 +4,9 @@ use mathlib.Core.Path.{_≡_}
 use mathlib.Core.List.{List}
 use lib.ListN.{length}
 use lib.Ieee.{Float}
-use Rattle.definition.specs.declared.C32.{C32}
-use Rattle.definition.specs.declared.CosSin.{CosSin}
-use Rattle.definition.specs.declared.EqualizeState.{EqualizeState}
+use Rattle.types.specs.declared.C32.{C32}
+use Rattle.types.specs.declared.CosSin.{CosSin}
+use Rattle.types.specs.declared.EqualizeState.{EqualizeState}
 use Rattle.definition.specs.Floats.{norm, minusC, scaledC}
 use Rattle.definition.specs.Slices.{power}
 use Rattle.definition.specs.Packed.{equalizer}

@@ -1,7 +1,6 @@
 // The plain path, step by step over the caller's slices: n taps in all, f of them forward, m of them feedback.
-use definition::C32;
-use definition::CosSin;
-use definition::EqualizeState;
+use types::C32;
+use types::EqualizeState;
 
 mod slices;
 mod step;
@@ -17,7 +16,7 @@ ghost use Rattle.definition.specs.Packed.{equalizer, Shaped, Ran};
 ghost use Rattle.definition.specs.Sample.{step2, step3, hear as hearDef, heardAs, sampleDef};
 ghost use Rattle.definition.specs.Rules.{ruleR4, acceptedDef};
 ghost use Rattle.definition.specs.Run.{runDef};
-ghost use Rattle.plain.specs.Pieces.{Sized, heardWith, stage, did};
+ghost use Rattle.plain.specs.Pieces.{Sized, stage, did};
 
 // What step 8 starts from.
 pub(crate) struct Stage {
@@ -34,51 +33,28 @@ pub(crate) struct Sampled {
     pub(crate) mark: u8,
 }
 
-// Steps 5 to 7, with the symbol z and the decision d.
-fn hear_with(
-    s: EqualizeState,
-    w: &mut [f32],
-    h: &[f32],
-    y: C32,
-    turn: CosSin,
-    z: C32,
-    d: C32,
-    n: usize,
-    f: usize,
-) -> Stage
-    requires { ⌜ Sized s (now w) (now h) n f ⌝ }
-    ensures { λ r. ⌜ stage r (now (w .exit)) ≡ heardAs s (now (w .entry)) n f (now (h .entry)) (heardWith s n f (now (h .entry)) y turn z d) ⌝ }
-{
-    let ed = step::minus(z, d);
-    let mode = s.mode;
-    let p = s.params;
-    let k = p.constellation;
-    let e = step::error_of(mode, k, y, ed, turn);
-    let forward = slices::window_power(h, 0, 0.0, f);
-    let power = slices::window_power(h, f, forward, n);
-    let u = step::update_for(s, e, forward, power);
-    slices::update_weights(u, w, h, n, f);
-    let fed = step::fed_back(mode, forward, d, turn);
-    let state = step::next_state(s, z, d, ed);
-    Stage {
-        state,
-        out: z,
-        fed,
-        mark: 0,
-    }
-}
-
-// Steps 4 to 7: a sample whose sum y is finite.
+// Steps 4 to 7: a sample whose sum y is finite. Cosine and sine come before the powers: they need not wait behind those long sums.
 fn hear(s: EqualizeState, w: &mut [f32], h: &[f32], y: C32, n: usize, f: usize) -> Stage
     requires { ⌜ Sized s (now w) (now h) n f ⌝ }
     ensures { λ r. ⌜ stage r (now (w .exit)) ≡ heardAs s (now (w .entry)) n f (now (h .entry)) (hearDef s n f (now (h .entry)) y) ⌝ }
 {
-    let p = s.params;
-    let k = p.constellation;
     let turn = mix::cos_sin(s.phase);
-    let z = costas::derotate(y, turn);
-    let d = constellation::decide(k, z);
-    hear_with(s, w, h, y, turn, z, d, n, f)
+    let forward = slices::window_power(h, 0, 0.0, f);
+    let power = slices::window_power(h, f, forward, n);
+    let size = steps::size_of(s, power);
+    let r = steps::step(s, turn, y, forward, size);
+    let u = r.update;
+    slices::update_weights(u, w, h, n, f);
+    let track = r.track;
+    let out = r.z;
+    let fed = r.fed;
+    let state = steps::with_track(s, track);
+    Stage {
+        state,
+        out,
+        fed,
+        mark: 0,
+    }
 }
 
 // A sample that is not heard.

@@ -1,6 +1,6 @@
 // Loops over the weights and the window: complex number i has its real part at 2 i and its imaginary part at 2 i + 1.
-use definition::C32;
-use definition::Update;
+use types::C32;
+use types::Update;
 ghost use mathlib.Core.Path.{_≡_};
 ghost use Prim.Native.Nat.{_+_, _*_, _<_, _≤_};
 ghost use lib.ListN.{length};

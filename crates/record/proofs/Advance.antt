@@ -4,8 +4,8 @@ use mathlib.Core.Path.{_≡_, sym, subst}
 use mathlib.Core.Bool.{true}
 use lib.Dec.{T, ltb→lt}
 use borrow.Author.Tests.{eq-eqb, ne-eqb, le-ltb, lt-ltb}
-use Rattle.definition.specs.declared.EqMode.the-variants.{Cma, Decision}
-use Rattle.definition.specs.declared.EqualizeState.{EqualizeState}
+use Rattle.types.specs.declared.EqMode.the-variants.{Cma, Decision}
+use Rattle.types.specs.declared.EqualizeState.{EqualizeState}
 use Rattle.definition.specs.Sample.{neverSwitch, withMode, advanceIn, advance}
 use Rattle.definition.specs.Rules.{countFits, ruleR4}
 

@@ -11,7 +11,8 @@ use lib.Dec.{T, ltb, eqb, eqb→eq}
 use lib.Ieee.{Float, nan, inf, fin, binary32, up, down, neg, lt, eq, ne, isNan, fits, toBits, ofBits, ofFields, odd}
 use lib.Ieee.Bits.{ofBits-toBits}
 use lib.Ieee.Fits.{up-pos, and-l, nan-fits}
-use Rattle.definition.specs.Floats.{zero32, abs}
+use Rattle.types.specs.Bits.{zero32}
+use Rattle.definition.specs.Floats.{abs}
 use Rattle.definition.specs.Rules.{sameBits, plusZero}
 
 -- ---- magnitude

@@ -5,13 +5,13 @@ use mathlib.Core.Bool.{Bool, true, false, not, _&&_}
 use lib.ListN.{length}
 use lib.Dec.{eqb, ltb}
 use borrow.Author.Tests.{eq-eqb, ne-eqb}
-use Rattle.definition.specs.declared.EqMode.the-variants.{Cma, Decision}
-use Rattle.definition.specs.declared.LoopGains.{LoopGains}
-use Rattle.definition.specs.declared.EqParams.{EqParams}
-use Rattle.definition.specs.declared.EqualizeState.{EqualizeState}
-use Rattle.definition.specs.declared.Error.the-variants.{Odd, Feedback, Taps, Window, MuCma, MuDd, Bandwidth, Record, Output, Marks}
-use Rattle.definition.specs.declared.Outcome.{Outcome}
-use Rattle.definition.specs.declared.Outcome.the-variants.{Served, Refused}
+use Rattle.types.specs.declared.EqMode.the-variants.{Cma, Decision}
+use Rattle.types.specs.declared.LoopGains.{LoopGains}
+use Rattle.types.specs.declared.EqParams.{EqParams}
+use Rattle.types.specs.declared.EqualizeState.{EqualizeState}
+use Rattle.types.specs.declared.Error.the-variants.{Odd, Feedback, Taps, Window, MuCma, MuDd, Bandwidth, Record, Output, Marks}
+use Rattle.types.specs.declared.Outcome.{Outcome}
+use Rattle.types.specs.declared.Outcome.the-variants.{Served, Refused}
 use Rattle.definition.specs.Refusals.{firstOf}
 use Rattle.definition.specs.Gains.{phaseDamping, loopGains}
 use Rattle.definition.specs.Sample.{Equalizer, neverSwitch}

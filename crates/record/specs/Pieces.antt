@@ -1,8 +1,8 @@
 -- What a function inside the crate promises, in the definition's words.
 use mathlib.Core.List.{[], _∷_}
-use Rattle.definition.specs.declared.EqParams.{EqParams}
-use Rattle.definition.specs.declared.Error.the-variants.{MuCma, MuDd, Bandwidth}
-use Rattle.definition.specs.declared.Outcome.{Outcome}
+use Rattle.types.specs.declared.EqParams.{EqParams}
+use Rattle.types.specs.declared.Error.the-variants.{MuCma, MuDd, Bandwidth}
+use Rattle.types.specs.declared.Outcome.{Outcome}
 use Rattle.definition.specs.Refusals.{test, firstOf}
 use Rattle.definition.specs.Rules.{muFits, bwFits}
 

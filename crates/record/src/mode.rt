@@ -1,6 +1,6 @@
 // The switch from Cma to Decision.
-use definition::EqMode;
-use definition::EqualizeState;
+use types::EqMode;
+use types::EqualizeState;
 ghost use mathlib.Core.Path.{_≡_};
 ghost use mathlib.Core.Bool.{true};
 ghost use Rattle.definition.specs.Sample.{advance as advanceDef};

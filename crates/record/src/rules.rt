@@ -1,7 +1,7 @@
 // The record check: rules R1 to R4.
 use crate::slices;
-use definition::EqMode;
-use definition::EqualizeState;
+use types::EqMode;
+use types::EqualizeState;
 ghost use mathlib.Core.Path.{_≡_};
 ghost use Prim.Native.Nat.{_-_};
 ghost use Rattle.definition.specs.Floats.{abs};

@@ -1,9 +1,9 @@
 // Whether a call is served: the first test that fails says why not.
 use crate::rules;
-use definition::EqParams;
-use definition::EqualizeState;
-use definition::Error;
-use definition::Outcome;
+use types::EqParams;
+use types::EqualizeState;
+use types::Error;
+use types::Outcome;
 ghost use mathlib.Core.Path.{_≡_};
 ghost use mathlib.Core.Bool.{_&&_};
 ghost use Rattle.definition.specs.Packed.{equalizer};

@@ -12,9 +12,9 @@ use crate::words::Floats;
 use crate::words::Words;
 use crate::words::floats;
 use crate::words::same_floats;
-use definition::EqualizeState;
-use definition::Equalized;
-use definition::Outcome;
+use types::EqualizeState;
+use types::Equalized;
+use types::Outcome;
 
 const MOST_TAPS: u64 = 128;
 

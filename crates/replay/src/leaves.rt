@@ -10,9 +10,9 @@ use crate::records::Numbered;
 use crate::records::constellation_of;
 use crate::words::Words;
 use crate::words::floats;
-use definition::C32;
-use definition::CosSin;
-use definition::Qam;
+use types::C32;
+use types::CosSin;
+use types::Qam;
 
 pub(crate) enum Leaf {
     IsFinite,

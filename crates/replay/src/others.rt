@@ -10,11 +10,11 @@ use crate::records::Found;
 use crate::words::Floats;
 use crate::words::Words;
 use crate::words::floats;
-use definition::EqualizeState;
-use definition::Equalized;
-use definition::Error;
-use definition::Fresh;
-use definition::Outcome;
+use types::EqualizeState;
+use types::Equalized;
+use types::Error;
+use types::Fresh;
+use types::Outcome;
 
 const MOST_TAPS: u64 = 128;
 
@@ -104,7 +104,7 @@ fn same_refusal(o: Outcome, number: u64, expected: u64, got: u64) -> bool {
         Outcome::Served => number == 0 && expected == 0 && got == 0,
         Outcome::Refused(e) => {
             let l = lengths_of(e);
-            (definition::error_number(e) as u64 == number)
+            (types::error_number(e) as u64 == number)
                 & (l.expected as u64 == expected)
                 & (l.got as u64 == got)
         }

@@ -9,10 +9,10 @@ use crate::patterns::whole;
 use crate::words::Floats;
 use crate::words::Words;
 use crate::words::same_floats;
-use definition::EqConstellation;
-use definition::EqMode;
-use definition::EqParams;
-use definition::EqualizeState;
+use types::EqConstellation;
+use types::EqMode;
+use types::EqParams;
+use types::EqualizeState;
 
 pub(crate) enum Found {
     Record(EqualizeState),

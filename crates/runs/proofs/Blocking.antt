@@ -7,27 +7,29 @@ use native.Mathlib.Omega.{arith}
 use borrow.Rule.Slice.PartMut.{midOf, putMid, mid-len}
 use lib.ListN.{length}
 use lib.Ieee.{Float}
-use Rattle.definition.specs.declared.EqualizeState.{EqualizeState}
+use Rattle.types.specs.declared.EqualizeState.{EqualizeState}
 use Rattle.definition.specs.Packed.{equalizer}
 use Rattle.definition.specs.Rules.{acceptedDef}
-use Rattle.lanes.specs.Arrays.{arrays, Long}
+use Rattle.lanes.specs.Arrays.{Arrays, arrays, Long}
 use Rattle.lanes.specs.Holds.{Holds}
 use Rattle.lanes.specs.Ahead.{Between, Entered, squareAt, chainOf}
 use Rattle.lanes.specs.Clock.{Sized}
 use Rattle.lanes.proofs.Starting.{entered-put, entered-holds, ahead-is}
 use Rattle.lanes.proofs.Ending.{end-holds}
-use Rattle.runs.specs.declared.run.Shape.{Shape}
-use Rattle.runs.specs.Taken.{Fits, Setting}
-use Rattle.runs.specs.Passing.{Begins, Begun, Passed, Runs, Ends, Blocks}
+use Rattle.onerun.specs.declared.Shape.{Shape}
+use Rattle.onerun.specs.Taken.{Fits, Setting}
+use Rattle.onerun.specs.Passing.{Begins, Begun, Passed, Runs, Ends, Blocks}
 
 -- ---- `begin`
 sized-from : (s : EqualizeState) (ps ss : List Float) (from to : ℕ) → from ≤ to → Sized s ps from ss → Sized s ps to ss
 sized-from s ps ss from to l z = record { cma = λ j f h g. z .cma j (omega arith) h g; decided = λ j f h g. z .decided j (omega arith) h g }
 
 pub begins : (s : EqualizeState) (n from : ℕ) (xs xr xi xr′ xi′ q₀ q p₀ ps ss : List Float) → from ≤ 64 - length xs / 2 → Entered xs xr xi xr′ xi′
-    → Between (squareAt xr′ xi′) from (64 + n) q₀ q → Between (λ i. chainOf q i n) from 64 p₀ ps → Sized s ps from ss → Begins s n xs xr xi xr′ xi′ ps ss
+    → Between (squareAt xr′ xi′) from (64 + n) q₀ q → Between (λ i. chainOf q i n) from 64 p₀ ps → Sized s ps from ss → Begins s n xs xr xi q₀ xr′ xi′ q ps ss
 begins s n from xs xr xi xr′ xi′ q₀ q p₀ ps ss l e b p z = record {
   entered = e;
+  from = from;
+  squared = b;
   powers = record { is = λ at v f h x. ahead-is xr′ xi′ q₀ q p₀ ps v from n at b p (omega arith) h x };
   sizes = sized-from s ps ss from (64 - length xs / 2) l z;
 }
@@ -51,61 +53,60 @@ module _ (xs ys : List Float) (ms : List ℕ) (i e : ℕ) (a : i ≤ e) (b : e �
       let y : length (midOf (2 * i) (2 * e - 2 * i) ys) ≡ 2 * e - 2 * i = mid-len (2 * i) (2 * e) ys (omega arith) in
       (omega (arith, part-ms, a, b), (omega (arith, part-ms, part-xs, a, b), omega (arith, part-ms, y, a, b)))
 
-module _ (s : EqualizeState) (g : Shape) (n : ℕ) (wl vl wr wi vr vi xr xi dr di dq xr1 xi1 ps ss xs wr′ wi′ vr′ vi′ dr′ di′ dq′ ypart : List Float) (mpart : List ℕ) (r : EqualizeState)
-    (long : Long (arrays wr wi vr vi xr xi dr di dq)) (begin : Begins s n xs xr xi xr1 xi1 ps ss)
-    (runs : Runs s g wl vl (arrays wr wi vr vi xr1 xi1 dr di dq) ps ss xs (arrays wr′ wi′ vr′ vi′ xr1 xi1 dr′ di′ dq′) ypart mpart r) where
-  mid-long : Long (arrays wr′ wi′ vr′ vi′ xr1 xi1 dr′ di′ dq′)
-  mid-long = runs .long (record { xr = begin .entered .re .long ∙ long .xr; xi = begin .entered .im .long ∙ long .xi; dr = long .dr; di = long .di; dq = long .dq })
+module _ (s : EqualizeState) (g : Shape) (n : ℕ) (limit wr wi xr xi sq xr1 xi1 sq1 ps ss xs : List Float) (a′ : Arrays) (ypart : List Float) (mpart : List ℕ) (r : EqualizeState)
+    (long : Long (arrays wr wi xr xi sq)) (begin : Begins s n xs xr xi sq xr1 xi1 sq1 ps ss) (runs : Runs s g limit (arrays wr wi xr1 xi1 sq1) ps ss xs a′ ypart mpart r) where
+  mid-long : Long a′
+  mid-long = runs .long (record { xr = begin .entered .re .long ∙ long .xr; xi = begin .entered .im .long ∙ long .xi; q = begin .squared .long ∙ long .q })
 
-  pub end-fits : (length xr1 ≡ 144) × ((length xi1 ≡ 144) × ((length dr′ ≡ 144) × ((length di′ ≡ 144) × (length dq′ ≡ 144))))
-  end-fits = let l = mid-long in (l .xr, (l .xi, (l .dr, (l .di, l .dq))))
+  pub end-fits : (length (a′ .xr) ≡ 288) × ((length (a′ .xi) ≡ 288) × (length (a′ .q) ≡ 288))
+  end-fits = let l = mid-long in (l .xr, (l .xi, l .q))
 
-  ended-long : (p : ℕ) (xr″ xi″ dr″ di″ dq″ : List Float) → Ends n (g .m) p xr1 xi1 dr′ di′ dq′ xr″ xi″ dr″ di″ dq″ → Long (arrays wr′ wi′ vr′ vi′ xr″ xi″ dr″ di″ dq″)
-  ended-long p xr″ xi″ dr″ di″ dq″ e =
+  ended-long : (p : ℕ) (xr″ xi″ sq″ : List Float) → Ends n (g .m) p (a′ .xr) (a′ .xi) (a′ .q) xr″ xi″ sq″ → Long (arrays (a′ .wr) (a′ .wi) xr″ xi″ sq″)
+  ended-long p xr″ xi″ sq″ e =
       let l = mid-long in
-      record { xr = e .xr-moved .long ∙ l .xr; xi = e .xi-moved .long ∙ l .xi; dr = e .dr-moved .long ∙ l .dr; di = e .di-moved .long ∙ l .di; dq = e .dq-moved .long ∙ l .dq }
+      record { xr = e .xr-back .long ∙ e .xr-forth .long ∙ l .xr; xi = e .xi-back .long ∙ e .xi-forth .long ∙ l .xi; q = e .sq-back .long ∙ l .q }
 
-  begun : (w h : List Float) → length xs ≤ 128 → Setting g n wl vl → Holds n (g .m) 64 (arrays wr wi vr vi xr xi dr di dq) (equalizer s w h) → Begun s g n wl vl (arrays wr wi vr vi xr1 xi1 dr di dq) ps ss xs w h
-  begun w h most set hold = record {
+  begun : (w h : List Float) → n ≤ 63 → length xs ≤ 128 → Setting g n limit → Holds n (g .m) 64 (arrays wr wi xr xi sq) (equalizer s w h) → Begun s g n limit (arrays wr wi xr1 xi1 sq1) ps ss xs w h
+  begun w h ln most set hold = record {
     setting = set;
-    holds = entered-holds xs xr xi xr1 xi1 (begin .entered) most n (g .m) wr wi vr vi dr di dq (equalizer s w h) hold;
+    holds = entered-holds xs xr xi xr1 xi1 (begin .entered) most n (g .m) wr wi sq sq1 _ _ (64 + n) (equalizer s w h) (omega arith) (begin .squared) hold;
     puts = λ k l. entered-put xs xr xi xr1 xi1 (begin .entered) most k l;
     powers = begin .powers;
     sizes = begin .sizes;
   }
 
-  passed : (w h : List Float) → n ≤ 63 → g .m ≤ 63 → length xs ≤ 128 → acceptedDef (equalizer s w h) ≡ true → Setting g n wl vl → Holds n (g .m) 64 (arrays wr wi vr vi xr xi dr di dq) (equalizer s w h)
-      → (xr″ xi″ dr″ di″ dq″ : List Float) → Ends n (g .m) (64 - length mpart) xr1 xi1 dr′ di′ dq′ xr″ xi″ dr″ di″ dq″
-      → Passed n (g .m) 64 (equalizer s w h) xs ypart mpart (arrays wr′ wi′ vr′ vi′ xr″ xi″ dr″ di″ dq″) r
-  passed w h ln lm most ok set hold xr″ xi″ dr″ di″ dq″ e =
-      let z = runs .passed n w h ok (begun w h most set hold) in
+  passed : (w h : List Float) → n ≤ 63 → g .m ≤ 63 → length xs ≤ 128 → acceptedDef (equalizer s w h) ≡ true → Setting g n limit → Holds n (g .m) 64 (arrays wr wi xr xi sq) (equalizer s w h)
+      → (xr″ xi″ sq″ : List Float) → Ends n (g .m) (64 - length mpart) (a′ .xr) (a′ .xi) (a′ .q) xr″ xi″ sq″
+      → Passed n (g .m) 64 (equalizer s w h) xs ypart mpart (arrays (a′ .wr) (a′ .wi) xr″ xi″ sq″) r
+  passed w h ln lm most ok set hold xr″ xi″ sq″ e =
+      let z = runs .passed n w h ok (begun w h ln most set hold) in
       record {
         weights = z .weights;
         window = z .window;
         ran = z .ran;
-        holds = end-holds n (g .m) (64 - length mpart) (arrays wr′ wi′ vr′ vi′ xr1 xi1 dr′ di′ dq′) xr″ xi″ dr″ di″ dq″ (equalizer r (z .weights) (z .window)) ln lm (omega arith) (z .holds)
-            (e .xr-moved) (e .xi-moved) (e .dr-moved) (e .di-moved) (e .dq-moved);
+        holds = end-holds n (g .m) (64 - length mpart) a′ (e .xr-mid) (e .xi-mid) xr″ xi″ sq″ (equalizer r (z .weights) (z .window)) ln lm (omega arith) (z .holds)
+            (e .xr-forth) (e .xi-forth) (e .xr-back) (e .xi-back) (e .sq-back);
       }
 
-pub blocks : (s : EqualizeState) (g : Shape) (n : ℕ) (wl vl wr wi vr vi xr xi dr di dq xr1 xi1 ps ss xs ys : List Float) (ms : List ℕ) (i e : ℕ) (wr′ wi′ vr′ vi′ dr′ di′ dq′ ypart : List Float) (mpart : List ℕ) (r : EqualizeState)
-    (xr″ xi″ dr″ di″ dq″ : List Float) → i ≤ e → e ≤ i + 64 → e ≤ length ms → length xs ≡ 2 * length ms → n ≤ 63 → Fits g → Long (arrays wr wi vr vi xr xi dr di dq)
-    → Begins s n (midOf (2 * i) (2 * e - 2 * i) xs) xr xi xr1 xi1 ps ss
-    → Runs s g wl vl (arrays wr wi vr vi xr1 xi1 dr di dq) ps ss (midOf (2 * i) (2 * e - 2 * i) xs) (arrays wr′ wi′ vr′ vi′ xr1 xi1 dr′ di′ dq′) ypart mpart r
-    → Ends n (g .m) (64 - (e - i)) xr1 xi1 dr′ di′ dq′ xr″ xi″ dr″ di″ dq″
-    → Blocks s g n wl vl (arrays wr wi vr vi xr xi dr di dq) xs ys ms i e (arrays wr′ wi′ vr′ vi′ xr″ xi″ dr″ di″ dq″) (putMid (2 * i) (2 * e - 2 * i) ys ypart) (putMid i (e - i) ms mpart) r
-blocks s g n wl vl wr wi vr vi xr xi dr di dq xr1 xi1 ps ss xs ys ms i e wr′ wi′ vr′ vi′ dr′ di′ dq′ ypart mpart r xr″ xi″ dr″ di″ dq″ a b l input ln f long begin runs ends =
+pub blocks : (s : EqualizeState) (g : Shape) (n : ℕ) (limit wr wi xr xi sq xr1 xi1 sq1 ps ss xs ys : List Float) (ms : List ℕ) (i e : ℕ) (a′ : Arrays) (ypart : List Float) (mpart : List ℕ) (r : EqualizeState)
+    (xr″ xi″ sq″ : List Float) → i ≤ e → e ≤ i + 64 → e ≤ length ms → length xs ≡ 2 * length ms → n ≤ 63 → Fits g → Long (arrays wr wi xr xi sq)
+    → Begins s n (midOf (2 * i) (2 * e - 2 * i) xs) xr xi sq xr1 xi1 sq1 ps ss
+    → Runs s g limit (arrays wr wi xr1 xi1 sq1) ps ss (midOf (2 * i) (2 * e - 2 * i) xs) a′ ypart mpart r
+    → Ends n (g .m) (64 - (e - i)) (a′ .xr) (a′ .xi) (a′ .q) xr″ xi″ sq″
+    → Blocks s g n limit (arrays wr wi xr xi sq) xs ys ms i e (arrays (a′ .wr) (a′ .wi) xr″ xi″ sq″) (putMid (2 * i) (2 * e - 2 * i) ys ypart) (putMid i (e - i) ms mpart) r
+blocks s g n limit wr wi xr xi sq xr1 xi1 sq1 ps ss xs ys ms i e a′ ypart mpart r xr″ xi″ sq″ a b l input ln f long begin runs ends =
     let x = midOf (2 * i) (2 * e - 2 * i) xs in
     let lx = part-xs xs ys ms i e a b l input in
     let len : length mpart ≡ e - i = omega (arith, runs .input, lx) in
-    let ends′ : Ends n (g .m) (64 - length mpart) xr1 xi1 dr′ di′ dq′ xr″ xi″ dr″ di″ dq″ = rw len ends in
+    let ends′ : Ends n (g .m) (64 - length mpart) (a′ .xr) (a′ .xi) (a′ .q) xr″ xi″ sq″ = rw len ends in
     record {
       lanes = runs .lanes;
-      long = ended-long s g n wl vl wr wi vr vi xr xi dr di dq xr1 xi1 ps ss x wr′ wi′ vr′ vi′ dr′ di′ dq′ ypart mpart r long begin runs (64 - (e - i)) xr″ xi″ dr″ di″ dq″ ends;
+      long = ended-long s g n limit wr wi xr xi sq xr1 xi1 sq1 ps ss x a′ ypart mpart r long begin runs (64 - (e - i)) xr″ xi″ sq″ ends;
       counts = runs .counts;
       blocked = λ w h ok set hold. record {
         part = ypart;
         part-marks = mpart;
-        passed = passed s g n wl vl wr wi vr vi xr xi dr di dq xr1 xi1 ps ss x wr′ wi′ vr′ vi′ dr′ di′ dq′ ypart mpart r long begin runs w h ln (f .back) (omega (arith, lx, a, b)) ok set hold xr″ xi″ dr″ di″ dq″ ends′;
+        passed = passed s g n limit wr wi xr xi sq xr1 xi1 sq1 ps ss x a′ ypart mpart r long begin runs w h ln (f .back) (omega (arith, lx, a, b)) ok set hold xr″ xi″ sq″ ends′;
         out = refl;
         marks = refl;
       };

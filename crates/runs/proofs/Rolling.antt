@@ -6,16 +6,16 @@ use mathlib.Core.List.{List}
 use native.Mathlib.Omega.{arith}
 use lib.ListN.{length}
 use lib.Ieee.{Float}
-use Rattle.definition.specs.declared.EqualizeState.{EqualizeState}
+use Rattle.types.specs.declared.EqualizeState.{EqualizeState}
 use Rattle.definition.specs.Packed.{equalizer}
 use Rattle.definition.specs.Sample.{Equalizer}
 use Rattle.definition.specs.Rules.{acceptedDef, ruleR4}
 use Rattle.lanes.specs.Arrays.{Arrays, Long}
 use Rattle.lanes.specs.Holds.{Holds}
-use Rattle.runs.specs.declared.run.Shape.{Shape}
-use Rattle.runs.specs.Taken.{Lanes, Setting}
-use Rattle.runs.specs.Passing.{Room, Blocks, Calls}
-use Rattle.runs.proofs.Folding.{Running, running-none, running-block, running-all}
+use Rattle.onerun.specs.declared.Shape.{Shape}
+use Rattle.onerun.specs.Taken.{Lanes, Setting}
+use Rattle.onerun.specs.Passing.{Room, Blocks, Calls}
+use Rattle.onerun.proofs.Folding.{Running, running-none, running-block, running-all}
 
 -- after i samples from q₀, in whole runs: weights and window, how far the block has come, and what the arrays hold
 pub record Rolled (n m : ℕ) (q₀ : Equalizer) (xs : List Float) (a : Arrays) (ys : List Float) (ms : List ℕ) (s : EqualizeState) (i : ℕ) : Type 0 where
@@ -24,21 +24,21 @@ pub record Rolled (n m : ℕ) (q₀ : Equalizer) (xs : List Float) (a : Arrays) 
   pub running : Running q₀ xs (equalizer s weights window) ys ms i
   pub holds : Holds n m 64 a (equalizer s weights window)
 
-pub record Rolling (s₀ : EqualizeState) (g : Shape) (n : ℕ) (wl vl : List Float) (a₀ : Arrays) (xs ys₀ : List Float) (ms₀ : List ℕ) (a : Arrays) (ys : List Float) (ms : List ℕ) (sq ps ss : List Float) (s : EqualizeState) (i : ℕ) : Type 0 where
-  pub lanes : Lanes (a .wr) (a .wi) (a .vr) (a .vi)
+pub record Rolling (s₀ : EqualizeState) (g : Shape) (n : ℕ) (limit : List Float) (a₀ : Arrays) (xs ys₀ : List Float) (ms₀ : List ℕ) (a : Arrays) (ys : List Float) (ms : List ℕ) (ps ss : List Float) (s : EqualizeState) (i : ℕ) : Type 0 where
+  pub lanes : Lanes (a .wr) (a .wi)
   pub long : Long a
-  pub room : Room sq ps ss
+  pub room : Room ps ss
   pub counts : ruleR4 s ≡ true
   pub here : i ≤ length ms
   pub input : length xs ≡ 2 * length ms
   pub output : length ys ≡ 2 * length ms
   pub long-ys : length ys ≡ length ys₀
   pub long-ms : length ms ≡ length ms₀
-  pub rolled : (w h : List Float) → acceptedDef (equalizer s₀ w h) ≡ true → Setting g n wl vl → Holds n (g .m) 64 a₀ (equalizer s₀ w h) → Rolled n (g .m) (equalizer s₀ w h) xs a ys ms s i
+  pub rolled : (w h : List Float) → acceptedDef (equalizer s₀ w h) ≡ true → Setting g n limit → Holds n (g .m) 64 a₀ (equalizer s₀ w h) → Rolled n (g .m) (equalizer s₀ w h) xs a ys ms s i
 
-pub rolling-none : (s : EqualizeState) (g : Shape) (n : ℕ) (wl vl : List Float) (a : Arrays) (xs ys : List Float) (ms : List ℕ) (sq ps ss : List Float) → Lanes (a .wr) (a .wi) (a .vr) (a .vi) → Long a → Room sq ps ss
-    → ruleR4 s ≡ true → length xs ≡ 2 * length ms → length ys ≡ 2 * length ms → Rolling s g n wl vl a xs ys ms a ys ms sq ps ss s 0
-rolling-none s g n wl vl a xs ys ms sq ps ss l k r c i o = record {
+pub rolling-none : (s : EqualizeState) (g : Shape) (n : ℕ) (limit : List Float) (a : Arrays) (xs ys : List Float) (ms : List ℕ) (ps ss : List Float) → Lanes (a .wr) (a .wi) → Long a → Room ps ss
+    → ruleR4 s ≡ true → length xs ≡ 2 * length ms → length ys ≡ 2 * length ms → Rolling s g n limit a xs ys ms a ys ms ps ss s 0
+rolling-none s g n limit a xs ys ms ps ss l k r c i o = record {
   lanes = l;
   long = k;
   room = r;
@@ -51,11 +51,11 @@ rolling-none s g n wl vl a xs ys ms sq ps ss l k r c i o = record {
   rolled = λ w h ok set hold. record { weights = w; window = h; running = running-none (equalizer s w h) xs ys ms ok; holds = hold };
 }
 
-module _ (s₀ : EqualizeState) (g : Shape) (n : ℕ) (wl vl : List Float) (a₀ : Arrays) (xs ys₀ : List Float) (ms₀ : List ℕ) (a : Arrays) (ys : List Float) (ms : List ℕ) (sq ps ss : List Float) (s : EqualizeState) (i : ℕ)
-    (o : Rolling s₀ g n wl vl a₀ xs ys₀ ms₀ a ys ms sq ps ss s i) where
-  pub rolling-more : (e : ℕ) (a′ : Arrays) (ys′ : List Float) (ms′ : List ℕ) (sq′ ps′ ss′ : List Float) (r : EqualizeState) → i ≤ e → e ≤ length ms → length ys′ ≡ length ys → length ms′ ≡ length ms
-      → Blocks s g n wl vl a xs ys ms i e a′ ys′ ms′ r → Room sq′ ps′ ss′ → Rolling s₀ g n wl vl a₀ xs ys₀ ms₀ a′ ys′ ms′ sq′ ps′ ss′ r e
-  rolling-more e a′ ys′ ms′ sq′ ps′ ss′ r l k ly lm b room = record {
+module _ (s₀ : EqualizeState) (g : Shape) (n : ℕ) (limit : List Float) (a₀ : Arrays) (xs ys₀ : List Float) (ms₀ : List ℕ) (a : Arrays) (ys : List Float) (ms : List ℕ) (ps ss : List Float) (s : EqualizeState) (i : ℕ)
+    (o : Rolling s₀ g n limit a₀ xs ys₀ ms₀ a ys ms ps ss s i) where
+  pub rolling-more : (e : ℕ) (a′ : Arrays) (ys′ : List Float) (ms′ : List ℕ) (ps′ ss′ : List Float) (r : EqualizeState) → i ≤ e → e ≤ length ms → length ys′ ≡ length ys → length ms′ ≡ length ms
+      → Blocks s g n limit a xs ys ms i e a′ ys′ ms′ r → Room ps′ ss′ → Rolling s₀ g n limit a₀ xs ys₀ ms₀ a′ ys′ ms′ ps′ ss′ r e
+  rolling-more e a′ ys′ ms′ ps′ ss′ r l k ly lm b room = record {
     lanes = b .lanes;
     long = b .long;
     room = room;
@@ -78,7 +78,7 @@ module _ (s₀ : EqualizeState) (g : Shape) (n : ℕ) (wl vl : List Float) (a₀
         };
   }
 
-  pub rolling-all : length ms ≤ i → Calls s₀ g n wl vl a₀ xs a ys ms s
+  pub rolling-all : length ms ≤ i → Calls s₀ g n limit a₀ xs a ys ms s
   rolling-all l = record {
     passed = λ w h ok set hold.
         let z = o .rolled w h ok set hold in

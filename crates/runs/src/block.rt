@@ -1,9 +1,9 @@
 // Blocks of samples in runs of 64: the caller's slices into the arrays, run after run, and back.
-use crate::run;
-use crate::run::Shape;
-use definition::EqualizeState;
+
 use lanes::load::History;
 use lanes::load::Weights;
+use onerun::Shape;
+use types::EqualizeState;
 ghost use mathlib.Core.Path.{_≡_};
 ghost use mathlib.Core.Bool.{true};
 ghost use Prim.Native.Nat.{_+_, _-_, _*_, _/_, _%_, _<_, _≤_};
@@ -14,8 +14,8 @@ ghost use Rattle.definition.specs.Packed.{equalizer, Ran};
 ghost use Rattle.definition.specs.Rules.{ruleR4};
 ghost use Rattle.definition.specs.Run.{runDef};
 ghost use Rattle.lanes.specs.Arrays.{arrays, Long};
-ghost use Rattle.runs.specs.Taken.{Fits, Lanes, Formed};
-ghost use Rattle.runs.specs.Passing.{Room, Begins, Ends, Blocks, Calls, Empty, Loads, Stores, Asked};
+ghost use Rattle.onerun.specs.Taken.{Fits, Lanes, Formed};
+ghost use Rattle.onerun.specs.Passing.{Room, Begins, Ends, Blocks, Calls, Empty, Loads, Stores, Asked};
 
 // What is made ahead of a run, one number for each sample.
 pub(crate) struct Ahead {}
@@ -27,19 +27,19 @@ impl Ahead {
 // The samples of a run into the window, and what depends on them alone.
 fn begin(
     s: EqualizeState,
-    xr: &mut [f32; 144],
-    xi: &mut [f32; 144],
-    q: &mut [f32; 144],
+    xr: &mut [f32; 288],
+    xi: &mut [f32; 288],
+    q: &mut [f32; 288],
     power: &mut [f32; 64],
     steps: &mut [f32; 64],
     input: &[f32],
     n: usize,
 )
-    requires { ⌜ (length (now xr) ≡ 144) × (length (now xi) ≡ 144) ⌝ }
-    requires { ⌜ Room (now q) (now power) (now steps) ⌝ }
+    requires { ⌜ (length (now xr) ≡ 288) × ((length (now xi) ≡ 288) × (length (now q) ≡ 288)) ⌝ }
+    requires { ⌜ Room (now power) (now steps) ⌝ }
     requires { ⌜ (length (now input) ≤ 128) × (n ≤ 63) ⌝ }
-    ensures { λ _. ⌜ Begins s n (now (input .entry)) (now (xr .entry)) (now (xi .entry)) (now (xr .exit)) (now (xi .exit)) (now (power .exit)) (now (steps .exit)) ⌝ }
-    ensures { λ _. ⌜ Room (now (q .exit)) (now (power .exit)) (now (steps .exit)) ⌝ }
+    ensures { λ _. ⌜ Begins s n (now (input .entry)) (now (xr .entry)) (now (xi .entry)) (now (q .entry)) (now (xr .exit)) (now (xi .exit)) (now (q .exit)) (now (power .exit)) (now (steps .exit)) ⌝ }
+    ensures { λ _. ⌜ Room (now (power .exit)) (now (steps .exit)) ⌝ }
 {
     let first = 64 - input.len() / 2;
     let from = first / 16 * 16;
@@ -50,27 +50,18 @@ fn begin(
 }
 
 // The windows of the last sample to where the next run looks for them.
-fn end(
-    xr: &mut [f32; 144],
-    xi: &mut [f32; 144],
-    dr: &mut [f32; 144],
-    di: &mut [f32; 144],
-    dq: &mut [f32; 144],
-    len: usize,
-    n: usize,
-    m: usize,
-)
-    requires { ⌜ (length (now xr) ≡ 144) × ((length (now xi) ≡ 144) × ((length (now dr) ≡ 144) × ((length (now di) ≡ 144) × (length (now dq) ≡ 144)))) ⌝ }
+fn end(xr: &mut [f32; 288], xi: &mut [f32; 288], q: &mut [f32; 288], len: usize, n: usize, m: usize)
+    requires { ⌜ (length (now xr) ≡ 288) × ((length (now xi) ≡ 288) × (length (now q) ≡ 288)) ⌝ }
     requires { ⌜ (len ≤ 64) × ((n ≤ 63) × (m ≤ 63)) ⌝ }
-    ensures { λ _. ⌜ Ends n m (64 - len) (now (xr .entry)) (now (xi .entry)) (now (dr .entry)) (now (di .entry)) (now (dq .entry))
-        (now (xr .exit)) (now (xi .exit)) (now (dr .exit)) (now (di .exit)) (now (dq .exit)) ⌝ }
+    ensures { λ _. ⌜ Ends n m (64 - len) (now (xr .entry)) (now (xi .entry)) (now (q .entry))
+        (now (xr .exit)) (now (xi .exit)) (now (q .exit)) ⌝ }
 {
     let first = 64 - len;
     lanes::load::moved(xr, first, 64, n);
     lanes::load::moved(xi, first, 64, n);
-    lanes::load::moved(dr, first + 8, 72, m);
-    lanes::load::moved(di, first + 8, 72, m);
-    lanes::load::moved(dq, first + 8, 72, m);
+    lanes::load::moved(xr, first + 152, 216, m);
+    lanes::load::moved(xi, first + 152, 216, m);
+    lanes::load::moved(q, first + 152, 216, m);
 }
 
 // One run: the samples i .. e, at most 64.
@@ -79,18 +70,12 @@ fn block(
     t: &[u32; 4097],
     g: Shape,
     n: usize,
-    wr: &mut [f32; 72],
-    wi: &mut [f32; 72],
-    wl: &[f32; 72],
-    xr: &mut [f32; 144],
-    xi: &mut [f32; 144],
-    vr: &mut [f32; 72],
-    vi: &mut [f32; 72],
-    vl: &[f32; 72],
-    dr: &mut [f32; 144],
-    di: &mut [f32; 144],
-    dq: &mut [f32; 144],
-    q: &mut [f32; 144],
+    wr: &mut [f32; 144],
+    wi: &mut [f32; 144],
+    limit: &[f32; 144],
+    xr: &mut [f32; 288],
+    xi: &mut [f32; 288],
+    q: &mut [f32; 288],
     power: &mut [f32; 64],
     steps: &mut [f32; 64],
     input: &[f32],
@@ -103,42 +88,37 @@ fn block(
     requires { ⌜ (length (now input) ≡ 2 * length (now marks)) × (length (now output) ≡ 2 * length (now marks)) ⌝ }
     requires { ⌜ (n ≤ 63) × Fits g ⌝ }
     requires { ⌜ (i ≤ e) × ((e ≤ i + 64) × (e ≤ length (now marks))) ⌝ }
-    requires { ⌜ Lanes (now wr) (now wi) (now vr) (now vi) ⌝ }
-    requires { ⌜ Long (arrays (now wr) (now wi) (now vr) (now vi) (now xr) (now xi) (now dr) (now di) (now dq)) ⌝ }
-    requires { ⌜ Room (now q) (now power) (now steps) ⌝ }
+    requires { ⌜ Lanes (now wr) (now wi) ⌝ }
+    requires { ⌜ Long (arrays (now wr) (now wi) (now xr) (now xi) (now q)) ⌝ }
+    requires { ⌜ Room (now power) (now steps) ⌝ }
     requires { ⌜ ruleR4 state ≡ true ⌝ }
-    ensures { λ r. ⌜ Blocks state g n (now (wl .entry)) (now (vl .entry))
-        (arrays (now (wr .entry)) (now (wi .entry)) (now (vr .entry)) (now (vi .entry)) (now (xr .entry)) (now (xi .entry)) (now (dr .entry)) (now (di .entry)) (now (dq .entry)))
+    ensures { λ r. ⌜ Blocks state g n (now (limit .entry))
+        (arrays (now (wr .entry)) (now (wi .entry)) (now (xr .entry)) (now (xi .entry)) (now (q .entry)))
         (now (input .entry)) (now (output .entry)) (now (marks .entry)) i e
-        (arrays (now (wr .exit)) (now (wi .exit)) (now (vr .exit)) (now (vi .exit)) (now (xr .exit)) (now (xi .exit)) (now (dr .exit)) (now (di .exit)) (now (dq .exit)))
+        (arrays (now (wr .exit)) (now (wi .exit)) (now (xr .exit)) (now (xi .exit)) (now (q .exit)))
         (now (output .exit)) (now (marks .exit)) r ⌝ }
-    ensures { λ _. ⌜ Room (now (q .exit)) (now (power .exit)) (now (steps .exit)) ⌝ }
+    ensures { λ _. ⌜ Room (now (power .exit)) (now (steps .exit)) ⌝ }
 {
     let a = 2 * i;
     let b = 2 * e;
     begin(state, xr, xi, q, power, steps, &input[a..b], n);
-    let r = run::run(
+    let r = onerun::run(
         state,
         t,
         g,
         wr,
         wi,
-        wl,
+        limit,
         xr,
         xi,
-        vr,
-        vi,
-        vl,
-        dr,
-        di,
-        dq,
+        q,
         power,
         steps,
         &input[a..b],
         &mut output[a..b],
         &mut marks[i..e],
     );
-    end(xr, xi, dr, di, dq, e - i, n, g.m);
+    end(xr, xi, q, e - i, n, g.m);
     r
 }
 
@@ -159,17 +139,12 @@ fn runs(
     t: &[u32; 4097],
     g: Shape,
     n: usize,
-    wr: &mut [f32; 72],
-    wi: &mut [f32; 72],
-    wl: &[f32; 72],
-    xr: &mut [f32; 144],
-    xi: &mut [f32; 144],
-    vr: &mut [f32; 72],
-    vi: &mut [f32; 72],
-    vl: &[f32; 72],
-    dr: &mut [f32; 144],
-    di: &mut [f32; 144],
-    dq: &mut [f32; 144],
+    wr: &mut [f32; 144],
+    wi: &mut [f32; 144],
+    limit: &[f32; 144],
+    xr: &mut [f32; 288],
+    xi: &mut [f32; 288],
+    q: &mut [f32; 288],
     input: &[f32],
     output: &mut [f32],
     marks: &mut [u8],
@@ -177,16 +152,15 @@ fn runs(
     requires { ⌜ now t ≡ cosBits ⌝ }
     requires { ⌜ (length (now input) ≡ 2 * length (now marks)) × (length (now output) ≡ 2 * length (now marks)) ⌝ }
     requires { ⌜ (n ≤ 63) × Fits g ⌝ }
-    requires { ⌜ Lanes (now wr) (now wi) (now vr) (now vi) ⌝ }
-    requires { ⌜ Long (arrays (now wr) (now wi) (now vr) (now vi) (now xr) (now xi) (now dr) (now di) (now dq)) ⌝ }
+    requires { ⌜ Lanes (now wr) (now wi) ⌝ }
+    requires { ⌜ Long (arrays (now wr) (now wi) (now xr) (now xi) (now q)) ⌝ }
     requires { ⌜ ruleR4 state ≡ true ⌝ }
-    ensures { λ r. ⌜ Calls state g n (now (wl .entry)) (now (vl .entry))
-        (arrays (now (wr .entry)) (now (wi .entry)) (now (vr .entry)) (now (vi .entry)) (now (xr .entry)) (now (xi .entry)) (now (dr .entry)) (now (di .entry)) (now (dq .entry)))
+    ensures { λ r. ⌜ Calls state g n (now (limit .entry))
+        (arrays (now (wr .entry)) (now (wi .entry)) (now (xr .entry)) (now (xi .entry)) (now (q .entry)))
         (now (input .entry))
-        (arrays (now (wr .exit)) (now (wi .exit)) (now (vr .exit)) (now (vi .exit)) (now (xr .exit)) (now (xi .exit)) (now (dr .exit)) (now (di .exit)) (now (dq .exit)))
+        (arrays (now (wr .exit)) (now (wi .exit)) (now (xr .exit)) (now (xi .exit)) (now (q .exit)))
         (now (output .exit)) (now (marks .exit)) r ⌝ }
 {
-    let mut q = History::ZERO;
     let mut power = Ahead::ZERO;
     let mut steps = Ahead::ZERO;
     let mut s = state;
@@ -201,16 +175,10 @@ fn runs(
             n,
             wr,
             wi,
-            wl,
+            limit,
             xr,
             xi,
-            vr,
-            vi,
-            vl,
-            dr,
-            di,
-            dq,
-            &mut q,
+            q,
             &mut power,
             &mut steps,
             input,
@@ -276,27 +244,23 @@ fn load(
     window: &[f32],
     n: usize,
     m: usize,
-    wr: &mut [f32; 72],
-    wi: &mut [f32; 72],
-    xr: &mut [f32; 144],
-    xi: &mut [f32; 144],
-    vr: &mut [f32; 72],
-    vi: &mut [f32; 72],
-    dr: &mut [f32; 144],
-    di: &mut [f32; 144],
-    dq: &mut [f32; 144],
+    wr: &mut [f32; 144],
+    wi: &mut [f32; 144],
+    xr: &mut [f32; 288],
+    xi: &mut [f32; 288],
+    q: &mut [f32; 288],
 )
     requires { ⌜ (length (now weights) ≡ 2 * (n + m)) × (length (now window) ≡ 2 * (n + m)) ⌝ }
     requires { ⌜ (n ≤ 63) × (m ≤ 63) ⌝ }
-    requires { ⌜ Empty (arrays (now wr) (now wi) (now vr) (now vi) (now xr) (now xi) (now dr) (now di) (now dq)) ⌝ }
+    requires { ⌜ Empty (arrays (now wr) (now wi) (now xr) (now xi) (now q)) ⌝ }
     ensures { λ _. ⌜ Loads n m (now (weights .entry)) (now (window .entry))
-        (arrays (now (wr .exit)) (now (wi .exit)) (now (vr .exit)) (now (vi .exit)) (now (xr .exit)) (now (xi .exit)) (now (dr .exit)) (now (di .exit)) (now (dq .exit))) ⌝ }
+        (arrays (now (wr .exit)) (now (wi .exit)) (now (xr .exit)) (now (xi .exit)) (now (q .exit))) ⌝ }
 {
     lanes::load::split(wr, wi, 0, weights, 0, n);
-    lanes::load::split(vr, vi, n % 8, weights, n, m);
+    lanes::load::split(wr, wi, 72 + n % 8, weights, n, m);
     lanes::load::split_long(xr, xi, 64, window, 0, n);
-    lanes::load::split_long(dr, di, 72, window, n, m);
-    lanes::prepare::squares(dq, dr, di, 72, 72 + m);
+    lanes::load::split_long(xr, xi, 216, window, n, m);
+    lanes::prepare::squares(q, xr, xi, 216, 216 + m);
 }
 
 // And back.
@@ -305,24 +269,20 @@ fn store(
     window: &mut [f32],
     n: usize,
     m: usize,
-    wr: &[f32; 72],
-    wi: &[f32; 72],
-    xr: &[f32; 144],
-    xi: &[f32; 144],
-    vr: &[f32; 72],
-    vi: &[f32; 72],
-    dr: &[f32; 144],
-    di: &[f32; 144],
+    wr: &[f32; 144],
+    wi: &[f32; 144],
+    xr: &[f32; 288],
+    xi: &[f32; 288],
 )
     requires { ⌜ (length (now weights) ≡ 2 * (n + m)) × (length (now window) ≡ 2 * (n + m)) ⌝ }
     requires { ⌜ (n ≤ 63) × (m ≤ 63) ⌝ }
-    ensures { λ _. ⌜ Stores n m (now (wr .entry)) (now (wi .entry)) (now (vr .entry)) (now (vi .entry)) (now (xr .entry)) (now (xi .entry)) (now (dr .entry)) (now (di .entry))
+    ensures { λ _. ⌜ Stores n m (now (wr .entry)) (now (wi .entry)) (now (xr .entry)) (now (xi .entry))
         (now (weights .entry)) (now (window .entry)) (now (weights .exit)) (now (window .exit)) ⌝ }
 {
     lanes::load::joined(weights, wr, wi, 0, 0, n);
-    lanes::load::joined(weights, vr, vi, n % 8, n, m);
+    lanes::load::joined(weights, wr, wi, 72 + n % 8, n, m);
     lanes::load::joined_long(window, xr, xi, 64, 0, n);
-    lanes::load::joined_long(window, dr, di, 72, n, m);
+    lanes::load::joined_long(window, xr, xi, 216, n, m);
 }
 
 // A block by n forward and m feedback taps: arrays, all runs, and back.
@@ -343,17 +303,12 @@ pub(crate) fn equalize(
         (equalizer r (now (weights .exit)) (now (window .exit))) (now (output .exit)) (now (marks .exit)) ⌝ }
 {
     let g = shape_of(n, m);
-    let wl = lanes::load::limits(0, n);
-    let vl = lanes::load::limits(n % 8, m);
+    let limit = lanes::load::limits(n, n % 8, m);
     let mut wr = Weights::ZERO;
     let mut wi = Weights::ZERO;
-    let mut vr = Weights::ZERO;
-    let mut vi = Weights::ZERO;
     let mut xr = History::ZERO;
     let mut xi = History::ZERO;
-    let mut dr = History::ZERO;
-    let mut di = History::ZERO;
-    let mut dq = History::ZERO;
+    let mut q = History::ZERO;
     load(
         weights,
         window,
@@ -363,11 +318,7 @@ pub(crate) fn equalize(
         &mut wi,
         &mut xr,
         &mut xi,
-        &mut vr,
-        &mut vi,
-        &mut dr,
-        &mut di,
-        &mut dq,
+        &mut q,
     );
     let s = runs(
         state,
@@ -376,32 +327,14 @@ pub(crate) fn equalize(
         n,
         &mut wr,
         &mut wi,
-        &wl,
+        &limit,
         &mut xr,
         &mut xi,
-        &mut vr,
-        &mut vi,
-        &vl,
-        &mut dr,
-        &mut di,
-        &mut dq,
+        &mut q,
         input,
         output,
         marks,
     );
-    store(
-        weights,
-        window,
-        n,
-        m,
-        &wr,
-        &wi,
-        &xr,
-        &xi,
-        &vr,
-        &vi,
-        &dr,
-        &di,
-    );
+    store(weights, window, n, m, &wr, &wi, &xr, &xi);
     s
 }

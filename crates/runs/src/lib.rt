@@ -1,9 +1,7 @@
 // The quick path and the joint path as one code: runs of 64 samples over split arrays.
-use definition::EqualizeState;
+use types::EqualizeState;
 
 mod block;
-mod run;
-mod step;
 
 ghost use Rattle.definition.specs.Slices.{samplesOf};
 ghost use Rattle.definition.specs.Packed.{equalizer, Shaped, Ran};

@@ -6,7 +6,7 @@ use Rattle.capi.proofs.refused.Reads as reads
 use Rattle.capi.proofs.refused.Lts as lts
 use Rattle.capi.proofs.expected_of.Reads as expected-of-reads
 use Rattle.capi.proofs.got_of.Reads as got-of-reads
-use Rattle.definition.proofs.error_number.Reads as error-number-reads
+use Rattle.types.proofs.error_number.Reads as error-number-reads
 
 -- src/lib.rt:240:9
 error-number-requires : tie.Need-error-number-requires

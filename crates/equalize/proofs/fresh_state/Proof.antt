@@ -5,7 +5,7 @@ use Rattle.equalize.proofs.fresh_state.Tie as tie
 use Rattle.equalize.proofs.fresh_state.Reads as reads
 use Rattle.equalize.proofs.fresh_state.Lts as lts
 use Rattle.costas.proofs.loop_gains.Reads as loop-gains-reads
-use Rattle.definition.proofs.EqualizeState.fresh.Reads as fresh-reads
+use Rattle.types.proofs.EqualizeState.fresh.Reads as fresh-reads
 
 -- src/lib.rt:36:9
 loop-gains-requires : tie.Need-loop-gains-requires

@@ -4,7 +4,7 @@ use Rattle.equalize.proofs.reset.Statement.{statement}
 use Rattle.equalize.proofs.reset.Tie as tie
 use Rattle.equalize.proofs.reset.Reads as reads
 use Rattle.equalize.proofs.reset.Lts as lts
-use Rattle.definition.proofs.EqualizeState.fresh.Reads as fresh-reads
+use Rattle.types.proofs.EqualizeState.fresh.Reads as fresh-reads
 use Rattle.record.proofs.rules.forward.Reads as forward-reads
 use Rattle.equalize.proofs.start_over.Reads as start-over-reads
 use Rattle.record.proofs.verdict.reset_verdict.Reads as reset-verdict-reads

@@ -1,5 +1,5 @@
 use lib.Ieee.{nan}
-use Rattle.lanes.specs.Steps.{brokenAt, anyOf}
+use Rattle.lanes.specs.Steps.{brokenAt, brokenIn, anyOf}
 use Rattle.lanes.proofs.Loops.{any-none, any-more}
 use Prim.Native.Nat.{ℕ, _+_, _-_, _*_, _/_, _%_, _≤_, _<_}
 use mathlib.Core.Path.{_≡_, refl, sym, _∙_, ap}
@@ -13,57 +13,62 @@ use Rattle.lanes.proofs.adapt.broken.Lts as lts
 use Rattle.lanes.proofs.adapt.broken_at.Reads as broken-at-reads
 
 abbrev Inv-loop : tie.InvT-loop
-Inv-loop wr wi limit bad₀ i₀ bad i = (i ≤ 72) × (bad ≡ anyOf i (λ i. brokenAt (getD wr i nan) (getD wi i nan) (getD limit i nan)))
+Inv-loop wr wi limit from bad₀ i₀ bad i = (i ≤ 72) × (bad ≡ anyOf i (λ i. brokenAt (getD wr (from + i) nan) (getD wi (from + i) nan) (getD limit (from + i) nan)))
 
 abbrev μ-loop : tie.MeasureT-loop
-μ-loop wr wi limit bad₀ i₀ bad i = 72 - i
+μ-loop wr wi limit from bad₀ i₀ bad i = 72 - i
 
--- src/adapt.rt:80:5
+-- src/adapt.rt:84:5
 loop-holds : tie.Need-loop-holds Inv-loop μ-loop
 loop-holds c = (search needs, any-none _)
 
--- src/adapt.rt:81:31
+-- src/adapt.rt:85:17
+add-k : tie.Need-add-k Inv-loop μ-loop
+add-k c = search needs
+
+-- src/adapt.rt:86:31
 mul-broken-at : tie.Need-mul-broken-at Inv-loop μ-loop
 mul-broken-at c = search needs
 
--- src/adapt.rt:81:31
+-- src/adapt.rt:86:31
 element-copy-out-broken-at : tie.Need-element-copy-out-broken-at Inv-loop μ-loop
 element-copy-out-broken-at c = search needs
 
--- src/adapt.rt:81:38
+-- src/adapt.rt:86:38
 mul-broken-at-2 : tie.Need-mul-broken-at-2 Inv-loop μ-loop
 mul-broken-at-2 c = search needs
 
--- src/adapt.rt:81:38
+-- src/adapt.rt:86:38
 element-copy-out-broken-at-2 : tie.Need-element-copy-out-broken-at-2 Inv-loop μ-loop
 element-copy-out-broken-at-2 c = search needs
 
--- src/adapt.rt:81:45
+-- src/adapt.rt:86:45
 mul-broken-at-3 : tie.Need-mul-broken-at-3 Inv-loop μ-loop
 mul-broken-at-3 c = search needs
 
--- src/adapt.rt:81:45
+-- src/adapt.rt:86:45
 element-copy-out-broken-at-3 : tie.Need-element-copy-out-broken-at-3 Inv-loop μ-loop
 element-copy-out-broken-at-3 c = search needs
 
--- src/adapt.rt:81:21
+-- src/adapt.rt:86:21
 broken-at-requires : tie.Need-broken-at-requires Inv-loop μ-loop
 broken-at-requires c κs = search needs
 
--- src/adapt.rt:82:9
+-- src/adapt.rt:87:9
 add-i : tie.Need-add-i Inv-loop μ-loop
 add-i c = search needs
 
--- src/adapt.rt:80:5
+-- src/adapt.rt:84:5
 loop-less : tie.Need-loop-less Inv-loop μ-loop
 loop-less c = search needs
 
--- src/adapt.rt:80:5
+-- src/adapt.rt:84:5
 loop-again : tie.Need-loop-again Inv-loop μ-loop
 loop-again c = (omega arith, any-more _ _ _ _ (c .before .before .before .before .before .loop .inv .1) (c .broken-at .ensures))
 
--- src/adapt.rt:75:1
+-- src/adapt.rt:78:1
 returns : tie.Need-returns Inv-loop μ-loop
+unfolding brokenIn
 returns c =
     let l = c .before in
     let e : l .loop .i ≡ 72 = omega arith in
@@ -76,6 +81,7 @@ broken-spec =
     Inv-loop
     μ-loop
     loop-holds
+    add-k
     mul-broken-at
     element-copy-out-broken-at
     mul-broken-at-2

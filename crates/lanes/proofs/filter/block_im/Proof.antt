@@ -13,10 +13,10 @@ use Rattle.lanes.proofs.filter.block_im.Lts as lts
 use Rattle.lanes.proofs.filter.prod_im.Reads as prod-im-reads
 
 abbrev Inv-loop : tie.InvT-loop
-Inv-loop acc₀ xr xi wr wi at i k₀ acc k = (k ≤ 8) × ((length acc₀ ≡ 8) × Added (splitIm xr xi wr wi at) i k acc₀ acc)
+Inv-loop acc₀ xr xi wr wi at from i k₀ acc k = (k ≤ 8) × ((length acc₀ ≡ 8) × Added (splitIm xr xi wr wi at from) i k acc₀ acc)
 
 abbrev μ-loop : tie.MeasureT-loop
-μ-loop acc₀ xr xi wr wi at i k₀ acc k = 8 - k
+μ-loop acc₀ xr xi wr wi at from i k₀ acc k = 8 - k
 
 -- src/filter.rt:45:5
 loop-holds : tie.Need-loop-holds Inv-loop μ-loop

@@ -13,10 +13,10 @@ use Rattle.lanes.proofs.filter.blocks_im.Lts as lts
 use Rattle.lanes.proofs.filter.block_im.Reads as block-im-reads
 
 abbrev Inv-loop : tie.InvT-loop
-Inv-loop acc₀ xr xi wr wi at lanes i₀ acc i = (i ≤ lanes) × ((i % 8 ≡ 0) × Onto (splitIm xr xi wr wi at) i acc₀ acc)
+Inv-loop acc₀ xr xi wr wi at from lanes i₀ acc i = (i ≤ lanes) × ((i % 8 ≡ 0) × Onto (splitIm xr xi wr wi at from) i acc₀ acc)
 
 abbrev μ-loop : tie.MeasureT-loop
-μ-loop acc₀ xr xi wr wi at lanes i₀ acc i = lanes - i
+μ-loop acc₀ xr xi wr wi at from lanes i₀ acc i = lanes - i
 
 -- src/filter.rt:66:5
 loop-holds : tie.Need-loop-holds Inv-loop μ-loop

@@ -1,4 +1,4 @@
-use Rattle.lanes.proofs.Loading.{limit-early, limit-in, limit-late}
+use Rattle.lanes.proofs.Loading.{limit-forth, limit-early, limit-in, limit-late}
 use Prim.Native.Nat.{ℕ, _+_, _-_, _*_, _/_, _%_, _≤_, _<_}
 use mathlib.Core.Path.{_≡_, refl, sym, _∙_, ap}
 use lib.ListN.{length, getD, set, length-set}
@@ -9,17 +9,21 @@ use Rattle.lanes.proofs.load.limit_of.Tie as tie
 use Rattle.lanes.proofs.load.limit_of.Reads as reads
 use Rattle.lanes.proofs.load.limit_of.Lts as lts
 
--- src/load.rt:51:9
+-- src/load.rt:116:9
 returns : tie.Need-returns
-returns c = search limit-early
+returns c = search limit-forth
 
--- src/load.rt:47:1
+-- src/load.rt:119:9
 returns-2 : tie.Need-returns-2
-returns-2 c = search limit-in
+returns-2 c = search limit-early
 
--- src/load.rt:47:1
+-- src/load.rt:112:1
 returns-3 : tie.Need-returns-3
-returns-3 c = search limit-late
+returns-3 c = search limit-in
+
+-- src/load.rt:112:1
+returns-4 : tie.Need-returns-4
+returns-4 c = search limit-late
 
 pub limit-of-spec : {M : Type 1} → statement M
-limit-of-spec = tie.close (tie.spec returns returns-2 returns-3)
+limit-of-spec = tie.close (tie.spec returns returns-2 returns-3 returns-4)

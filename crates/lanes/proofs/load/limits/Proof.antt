@@ -1,7 +1,6 @@
-use lib.Ieee.{nan}
-use Rattle.lanes.specs.Steps.{Mapped}
+use Rattle.lanes.specs.Ahead.{Between}
 use Rattle.lanes.specs.Load.{limitAt}
-use Rattle.lanes.proofs.Loops.{mapped-none, mapped-more}
+use Rattle.lanes.proofs.Loops.{between-none, between-more}
 use Rattle.lanes.proofs.Loading.{limits-are}
 use Prim.Native.Nat.{ℕ, _+_, _-_, _*_, _/_, _%_, _≤_, _<_}
 use mathlib.Core.Path.{_≡_, refl, sym, _∙_, ap}
@@ -15,51 +14,59 @@ use Rattle.lanes.proofs.load.limits.Lts as lts
 use Rattle.lanes.proofs.load.limit_of.Reads as limit-of-reads
 
 abbrev Inv-loop : tie.InvT-loop
-Inv-loop from count limit₀ i₀ limit i = (i ≤ 72) × ((length limit ≡ 72) × Mapped (limitAt from (from + count)) i limit₀ limit)
+Inv-loop n front m limit₀ i₀ limit i = (i ≤ 144) × ((length limit ≡ 144) × Between (limitAt n (72 + front) (72 + front + m)) 0 i limit₀ limit)
 
 abbrev μ-loop : tie.MeasureT-loop
-μ-loop from count limit₀ i₀ limit i = 72 - i
+μ-loop n front m limit₀ i₀ limit i = 144 - i
 
--- src/load.rt:63:5
+-- src/load.rt:131:5
 loop-holds : tie.Need-loop-holds Inv-loop μ-loop
-loop-holds c = (search needs, (search needs, mapped-none _ _))
+loop-holds c = (search needs, (search needs, between-none _ _ _))
 
--- src/load.rt:64:38
+-- src/load.rt:132:35
 add-limit-of : tie.Need-add-limit-of Inv-loop μ-loop
 add-limit-of c = search needs
 
--- src/load.rt:64:20
+-- src/load.rt:132:47
+add-limit-of-2 : tie.Need-add-limit-of-2 Inv-loop μ-loop
+add-limit-of-2 c = search needs
+
+-- src/load.rt:132:47
+add-limit-of-3 : tie.Need-add-limit-of-3 Inv-loop μ-loop
+add-limit-of-3 c = search needs
+
+-- src/load.rt:132:20
 limit-of-requires : tie.Need-limit-of-requires Inv-loop μ-loop
 limit-of-requires c κs = search needs
 
--- src/load.rt:64:9
+-- src/load.rt:132:9
 mul-limit : tie.Need-mul-limit Inv-loop μ-loop
 mul-limit c = search needs
 
--- src/load.rt:64:9
+-- src/load.rt:132:9
 array-write-limit : tie.Need-array-write-limit Inv-loop μ-loop
 array-write-limit c = search needs
 
--- src/load.rt:65:9
+-- src/load.rt:133:9
 add-i : tie.Need-add-i Inv-loop μ-loop
 add-i c = search needs
 
--- src/load.rt:63:5
+-- src/load.rt:131:5
 loop-less : tie.Need-loop-less Inv-loop μ-loop
 loop-less c = search needs
 
--- src/load.rt:63:5
+-- src/load.rt:131:5
 loop-again : tie.Need-loop-again Inv-loop μ-loop
 loop-again c =
     let v = c .before .before .loop .inv in
-    (omega arith, (simp length-set (v .1 .0), mapped-more _ _ _ (c .limit-of .ensures) (omega arith) (v .1 .1)))
+    (omega arith, (simp length-set (v .1 .0), between-more _ 0 _ _ (c .limit-of .ensures) (omega arith) (omega arith) (v .1 .1)))
 
--- src/load.rt:57:1
+-- src/load.rt:125:1
 returns : tie.Need-returns Inv-loop μ-loop
 returns c =
     let v = c .before .loop .inv in
-    let e : c .before .loop .i ≡ 72 = omega arith in
-    limits-are _ _ _ _ (search needs) (rw e at (v .1 .1))
+    let e : c .before .loop .i ≡ 144 = omega arith in
+    limits-are _ _ _ _ _ (search needs) (search needs) (rw e at (v .1 .1))
 
 pub limits-spec : {M : Type 1} → statement M
 limits-spec =
@@ -69,6 +76,8 @@ limits-spec =
     μ-loop
     loop-holds
     add-limit-of
+    add-limit-of-2
+    add-limit-of-3
     limit-of-requires
     mul-limit
     array-write-limit

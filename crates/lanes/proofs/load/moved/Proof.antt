@@ -12,7 +12,7 @@ use Rattle.lanes.proofs.load.moved.Reads as reads
 use Rattle.lanes.proofs.load.moved.Lts as lts
 
 abbrev Inv-loop : tie.InvT-loop
-Inv-loop x₀ from to count i₀ x i = (i ≤ count) × (((length x₀ ≡ 144) × ((from ≤ to) × (to + count ≤ 144))) × Between (λ k. getD x₀ (from + (k - to)) nan) (to + i) (to + count) x₀ x)
+Inv-loop x₀ from to count i₀ x i = (i ≤ count) × (((length x₀ ≡ 288) × ((from ≤ to) × (to + count ≤ 288))) × Between (λ k. getD x₀ (from + (k - to)) nan) (to + i) (to + count) x₀ x)
 
 abbrev μ-loop : tie.MeasureT-loop
 μ-loop x₀ from to count i₀ x i = i

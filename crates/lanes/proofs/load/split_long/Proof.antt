@@ -13,7 +13,7 @@ use Rattle.lanes.proofs.load.split_long.Reads as reads
 use Rattle.lanes.proofs.load.split_long.Lts as lts
 
 abbrev Inv-loop : tie.InvT-loop
-Inv-loop re₀ im₀ at x from count i₀ re im i = (i ≤ count) × (((length re₀ ≡ 144) × (length im₀ ≡ 144)) × (Between (λ i. reAt x (from + (i - at))) at (at + i) re₀ re × Between (λ i. imAt x (from + (i - at))) at (at + i) im₀ im))
+Inv-loop re₀ im₀ at x from count i₀ re im i = (i ≤ count) × (((length re₀ ≡ 288) × (length im₀ ≡ 288)) × (Between (λ i. reAt x (from + (i - at))) at (at + i) re₀ re × Between (λ i. imAt x (from + (i - at))) at (at + i) im₀ im))
 
 abbrev μ-loop : tie.MeasureT-loop
 μ-loop re₀ im₀ at x from count i₀ re im i = count - i

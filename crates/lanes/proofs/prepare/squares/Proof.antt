@@ -12,7 +12,7 @@ use Rattle.lanes.proofs.prepare.squares.Reads as reads
 use Rattle.lanes.proofs.prepare.squares.Lts as lts
 
 abbrev Inv-loop : tie.InvT-loop
-Inv-loop q₀ xr xi from to j₀ q j = (from ≤ j) × ((j ≤ to) × ((length q₀ ≡ 144) × Between (squareAt xr xi) from j q₀ q))
+Inv-loop q₀ xr xi from to j₀ q j = (from ≤ j) × ((j ≤ to) × ((length q₀ ≡ 288) × Between (squareAt xr xi) from j q₀ q))
 
 abbrev μ-loop : tie.MeasureT-loop
 μ-loop q₀ xr xi from to j₀ q j = to - j

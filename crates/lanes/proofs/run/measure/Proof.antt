@@ -46,7 +46,7 @@ sum-im-requires c κs = search needs
 
 -- src/run.rt:20:1
 returns : tie.Need-returns
-returns c = measured _ _ _ _ _ _ _ _ _ _ _ _ _ _ _ _ _ _ _ (c .before .before .before .before .pre .0 .0) (c .before .before .before .chain .ensures) (c .before .before .sum-re .ensures) (c .before .chain2 .ensures) (c .sum-im .ensures)
+returns c = measured _ _ _ _ _ _ _ _ _ _ _ _ _ _ _ (c .before .before .before .before .pre .0 .0) (c .before .before .before .chain .ensures) (c .before .before .sum-re .ensures) (c .before .chain2 .ensures) (c .sum-im .ensures)
 
 pub measure-spec : {M : Type 1} → statement M
 measure-spec =

@@ -6,7 +6,7 @@ use lib.Ieee.{nan}
 use denote.Ref.{now}
 use lib.ListN.{length, length-set}
 use Rattle.definition.specs.Slices.{part, newRe, newIm, updated}
-use Rattle.definition.proofs.Mapped.{Mapped, mapped-none, mapped-more, mapped-read, part-even, part-odd}
+use Rattle.definition_laws.proofs.Mapped.{Mapped, mapped-none, mapped-more, mapped-read, part-even, part-odd}
 use Rattle.plain.proofs.slices.renew.Statement.{statement}
 use Rattle.plain.proofs.slices.renew.Tie as tie
 use Rattle.plain.proofs.slices.renew.Reads as reads

@@ -5,7 +5,7 @@ use native.Mathlib.Omega.{arith}
 use mathlib.Core.List.{_∷_}
 use lib.ListN.{length, getD, length-set}
 use lib.Ieee.{Float, nan}
-use Rattle.definition.proofs.Mapped.{Mapped, mapped-none, mapped-more, mapped-read, shift-list}
+use Rattle.definition_laws.proofs.Mapped.{Mapped, mapped-none, mapped-more, mapped-read, shift-list}
 use Rattle.plain.proofs.slices.shift.Statement.{statement}
 use Rattle.plain.proofs.slices.shift.Tie as tie
 use Rattle.plain.proofs.slices.shift.Reads as reads

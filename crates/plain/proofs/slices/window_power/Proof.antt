@@ -3,7 +3,7 @@ use Prim.Native.Nat.{ℕ, _+_, _-_, _*_, _≤_}
 use mathlib.Core.Path.{_≡_}
 use native.Mathlib.Omega.{arith}
 use Rattle.definition.specs.Slices.{power}
-use Rattle.definition.proofs.Mapped.{power-more}
+use Rattle.definition_laws.proofs.Mapped.{power-more}
 use Rattle.plain.proofs.slices.window_power.Statement.{statement}
 use Rattle.plain.proofs.slices.window_power.Tie as tie
 use Rattle.plain.proofs.slices.window_power.Reads as reads

@@ -3,8 +3,8 @@ use Prim.Native.Nat.{ℕ, _+_, _-_, _*_, _≤_}
 use mathlib.Core.Path.{_≡_, refl}
 use native.Mathlib.Omega.{arith}
 use lib.ListN.{length, length-set}
-use Rattle.definition.specs.Floats.{zero32}
-use Rattle.definition.proofs.Mapped.{Mapped, mapped-none, mapped-more, clear-all}
+use Rattle.types.specs.Bits.{zero32}
+use Rattle.definition_laws.proofs.Mapped.{Mapped, mapped-none, mapped-more, clear-all}
 use Rattle.record.proofs.slices.clear.Statement.{statement}
 use Rattle.record.proofs.slices.clear.Tie as tie
 use Rattle.record.proofs.slices.clear.Reads as reads

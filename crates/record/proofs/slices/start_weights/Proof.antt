@@ -1,5 +1,5 @@
 use borrow.Author.Needs.{needs}
-use Rattle.definition.proofs.Mapped.{start-is}
+use Rattle.definition_laws.proofs.Mapped.{start-is}
 use Rattle.record.proofs.slices.start_weights.Statement.{statement}
 use Rattle.record.proofs.slices.start_weights.Tie as tie
 use Rattle.record.proofs.slices.start_weights.Reads as reads

@@ -11,52 +11,52 @@ use Rattle.runs.proofs.block.block.Reads as block-reads
 use Rattle.runs.proofs.block.least.Reads as least-reads
 
 abbrev Inv-loop : tie.InvT-loop
-Inv-loop t g n wr₀ wi₀ wl xr₀ xi₀ vr₀ vi₀ vl dr₀ di₀ dq₀ input output₀ marks₀ q₀ power₀ steps₀ s₀ i₀ wr wi xr xi vr vi dr di dq output marks q power steps s i =
-    Rolling s₀ g n wl vl (arrays wr₀ wi₀ vr₀ vi₀ xr₀ xi₀ dr₀ di₀ dq₀) input output₀ marks₀ (arrays wr wi vr vi xr xi dr di dq) output marks q power steps s i
+Inv-loop t g n wr₀ wi₀ limit xr₀ xi₀ q₀ input output₀ marks₀ power₀ steps₀ s₀ i₀ wr wi xr xi q output marks power steps s i =
+    Rolling s₀ g n limit (arrays wr₀ wi₀ xr₀ xi₀ q₀) input output₀ marks₀ (arrays wr wi xr xi q) output marks power steps s i
 
 abbrev μ-loop : tie.MeasureT-loop
-μ-loop t g n wr₀ wi₀ wl xr₀ xi₀ vr₀ vi₀ vl dr₀ di₀ dq₀ input output₀ marks₀ q₀ power₀ steps₀ s₀ i₀ wr wi xr xi vr vi dr di dq output marks q power steps s i =
+μ-loop t g n wr₀ wi₀ limit xr₀ xi₀ q₀ input output₀ marks₀ power₀ steps₀ s₀ i₀ wr wi xr xi q output marks power steps s i =
     length marks - i
 
--- src/block.rt:191:5
+-- src/block.rt:175:5
 loop-holds : tie.Need-loop-holds Inv-loop μ-loop
-loop-holds c = rolling-none _ _ _ _ _ _ _ _ _ _ _ _ (c .before .before .before .pre .1 .1 .1 .0) (c .before .before .before .pre .1 .1 .1 .1 .0) (record { sq-long = simp length-replicate; ps-long = simp length-replicate; ss-long = simp length-replicate }) (c .before .before .before .pre .1 .1 .1 .1 .1) (c .before .before .before .pre .1 .0 .0) (c .before .before .before .pre .1 .0 .1)
+loop-holds c = rolling-none _ _ _ _ _ _ _ _ _ _ (c .before .before .before .pre .1 .1 .1 .0) (c .before .before .before .pre .1 .1 .1 .1 .0) (record { ps-long = simp length-replicate; ss-long = simp length-replicate }) (c .before .before .before .pre .1 .1 .1 .1 .1) (c .before .before .before .pre .1 .0 .0) (c .before .before .before .pre .1 .0 .1)
 
--- src/block.rt:192:25
+-- src/block.rt:176:25
 sub-least : tie.Need-sub-least Inv-loop μ-loop
 sub-least c = omega (arith, c .before .loop .inv .here, c .before .loop .inv .input, c .loop-test .taken)
 
--- src/block.rt:192:13
+-- src/block.rt:176:13
 least-requires : tie.Need-least-requires Inv-loop μ-loop
 least-requires c κs = (omega (arith, c .before .loop .inv .here, c .before .loop .inv .input, c .loop-test .taken), omega arith)
 
--- src/block.rt:193:17
+-- src/block.rt:177:17
 add-e : tie.Need-add-e Inv-loop μ-loop
-add-e c = omega (arith, c .before .before .loop .inv .here, c .before .before .loop .inv .input, c .before .loop-test .taken, c .least .ensures .0, c .before .before .before .before .before .before .good .1 .1 .1 .1 .1 .1 .1 .1 .1 .1 .1 .1 .1 .1 .1 .1 .1 .0 .0)
+add-e c = omega (arith, c .before .before .loop .inv .here, c .before .before .loop .inv .input, c .before .loop-test .taken, c .least .ensures .0, c .before .before .before .before .before .before .good .1 .1 .1 .1 .1 .1 .1 .1 .1 .1 .1 .1 .0 .0)
 
--- src/block.rt:194:9
+-- src/block.rt:178:9
 block-requires : tie.Need-block-requires Inv-loop μ-loop
-block-requires c κs = (c .before .before .before .before .before .before .before .before .before .before .before .before .before .before .before .before .before .before .before .before .pre .0, ((c .before .before .before .before .before .before .before .before .before .before .before .before .before .before .before .before .loop .inv .input, c .before .before .before .before .before .before .before .before .before .before .before .before .before .before .before .before .loop .inv .output), (c .before .before .before .before .before .before .before .before .before .before .before .before .before .before .before .before .before .before .before .before .pre .1 .1 .0, ((omega arith, (omega (arith, c .before .before .before .before .before .before .before .before .before .before .before .before .before .before .least .ensures .1 .0), omega (arith, c .before .before .before .before .before .before .before .before .before .before .before .before .before .before .before .before .loop .inv .here, c .before .before .before .before .before .before .before .before .before .before .before .before .before .before .before .before .loop .inv .input, c .before .before .before .before .before .before .before .before .before .before .before .before .before .before .before .loop-test .taken, c .before .before .before .before .before .before .before .before .before .before .before .before .before .before .least .ensures .0))), (c .before .before .before .before .before .before .before .before .before .before .before .before .before .before .before .before .loop .inv .lanes, (c .before .before .before .before .before .before .before .before .before .before .before .before .before .before .before .before .loop .inv .long, (c .before .before .before .before .before .before .before .before .before .before .before .before .before .before .before .before .loop .inv .room, c .before .before .before .before .before .before .before .before .before .before .before .before .before .before .before .before .loop .inv .counts)))))))
+block-requires c κs = (c .before .before .before .before .before .before .before .before .before .before .before .before .before .before .before .pre .0, ((c .before .before .before .before .before .before .before .before .before .before .before .loop .inv .input, c .before .before .before .before .before .before .before .before .before .before .before .loop .inv .output), (c .before .before .before .before .before .before .before .before .before .before .before .before .before .before .before .pre .1 .1 .0, ((omega arith, (omega (arith, c .before .before .before .before .before .before .before .before .before .least .ensures .1 .0), omega (arith, c .before .before .before .before .before .before .before .before .before .before .before .loop .inv .here, c .before .before .before .before .before .before .before .before .before .before .before .loop .inv .input, c .before .before .before .before .before .before .before .before .before .before .loop-test .taken, c .before .before .before .before .before .before .before .before .before .least .ensures .0))), (c .before .before .before .before .before .before .before .before .before .before .before .loop .inv .lanes, (c .before .before .before .before .before .before .before .before .before .before .before .loop .inv .long, (c .before .before .before .before .before .before .before .before .before .before .before .loop .inv .room, c .before .before .before .before .before .before .before .before .before .before .before .loop .inv .counts)))))))
 
--- src/block.rt:191:5
+-- src/block.rt:175:5
 loop-less : tie.Need-loop-less Inv-loop μ-loop
-loop-less c = omega (arith, c .before .before .before .before .before .before .before .before .before .before .before .before .before .before .before .before .before .before .before .before .before .loop .inv .here, c .before .before .before .before .before .before .before .before .before .before .before .before .before .before .before .before .before .before .before .before .before .loop .inv .input, c .before .before .before .before .before .before .before .before .before .before .before .before .before .before .before .before .before .before .before .before .loop-test .taken, c .before .before .before .before .before .before .before .before .before .before .before .before .before .before .before .before .before .before .before .least .ensures .0, c .before .before .before .before .before .before .before .before .before .before .before .before .before .before .before .before .before .before .before .least .ensures .1 .1, c .before .before .before .before .block .kept .1 .1 .1 .1 .1 .1 .1 .1 .1 .1 .1 .1 .1 .1 .1 .1 .1 .1 .1 .1 .0)
+loop-less c = omega (arith, c .before .before .before .before .before .before .before .before .before .before .before .before .before .before .before .before .loop .inv .here, c .before .before .before .before .before .before .before .before .before .before .before .before .before .before .before .before .loop .inv .input, c .before .before .before .before .before .before .before .before .before .before .before .before .before .before .before .loop-test .taken, c .before .before .before .before .before .before .before .before .before .before .before .before .before .before .least .ensures .0, c .before .before .before .before .before .before .before .before .before .before .before .before .before .before .least .ensures .1 .1, c .before .before .before .before .block .kept .1 .1 .1 .1 .1 .1 .1 .1 .1 .1 .1 .1 .1 .1 .0)
 
--- src/block.rt:191:5
+-- src/block.rt:175:5
 loop-again : tie.Need-loop-again Inv-loop μ-loop
-loop-again c = rolling-more _ _ _ _ _ _ _ _ _ _ _ _ _ _ _ _ _ (c .before .before .before .before .before .before .before .before .before .before .before .before .before .before .before .before .before .before .before .before .before .loop .inv) _ _ _ _ _ _ _ _ (omega arith) (omega (arith, c .before .before .before .before .before .before .before .before .before .before .before .before .before .before .before .before .before .before .before .before .before .loop .inv .here, c .before .before .before .before .before .before .before .before .before .before .before .before .before .before .before .before .before .before .before .before .before .loop .inv .input, c .before .before .before .before .before .before .before .before .before .before .before .before .before .before .before .before .before .before .before .before .loop-test .taken, c .before .before .before .before .before .before .before .before .before .before .before .before .before .before .before .before .before .before .before .least .ensures .0)) (c .before .before .before .before .block .kept .1 .1 .1 .1 .1 .1 .1 .1 .1 .1 .1 .1 .1 .1 .1 .1 .1 .1 .1 .0) (c .before .before .before .before .block .kept .1 .1 .1 .1 .1 .1 .1 .1 .1 .1 .1 .1 .1 .1 .1 .1 .1 .1 .1 .1 .0) (c .before .before .before .before .block .ensures .0) (c .before .before .before .before .block .ensures .1)
+loop-again c = rolling-more _ _ _ _ _ _ _ _ _ _ _ _ _ _ _ (c .before .before .before .before .before .before .before .before .before .before .before .before .before .before .before .before .loop .inv) _ _ _ _ _ _ _ (omega arith) (omega (arith, c .before .before .before .before .before .before .before .before .before .before .before .before .before .before .before .before .loop .inv .here, c .before .before .before .before .before .before .before .before .before .before .before .before .before .before .before .before .loop .inv .input, c .before .before .before .before .before .before .before .before .before .before .before .before .before .before .before .loop-test .taken, c .before .before .before .before .before .before .before .before .before .before .before .before .before .before .least .ensures .0)) (c .before .before .before .before .block .kept .1 .1 .1 .1 .1 .1 .1 .1 .1 .1 .1 .1 .1 .0) (c .before .before .before .before .block .kept .1 .1 .1 .1 .1 .1 .1 .1 .1 .1 .1 .1 .1 .1 .0) (c .before .before .before .before .block .ensures .0) (c .before .before .before .before .block .ensures .1)
 
--- src/block.rt:154:1
+-- src/block.rt:144:1
 same-length : tie.Need-same-length Inv-loop μ-loop
 same-length c = c .before .loop .inv .long-ys
 
--- src/block.rt:154:1
+-- src/block.rt:144:1
 same-length-2 : tie.Need-same-length-2 Inv-loop μ-loop
 same-length-2 c = c .before .loop .inv .long-ms
 
--- src/block.rt:154:1
+-- src/block.rt:144:1
 returns : tie.Need-returns Inv-loop μ-loop
-returns c = rolling-all _ _ _ _ _ _ _ _ _ _ _ _ _ _ _ _ _ (c .before .loop .inv) (c .loop-test .left)
+returns c = rolling-all _ _ _ _ _ _ _ _ _ _ _ _ _ _ _ (c .before .loop .inv) (c .loop-test .left)
 
 pub runs-spec : {M : Type 1} → statement M
 runs-spec =

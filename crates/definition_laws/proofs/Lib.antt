@@ -1,0 +1,14 @@
+-- Laws about the definition, for the theorems and for the code; and the vectors.
+pub mod Every
+pub mod Parts
+pub mod Bounds
+pub mod Gains
+pub mod Accept
+pub mod Kept
+pub mod Exits
+pub mod Runs
+pub mod Padding
+pub mod Verdicts
+pub mod Vectors
+pub mod Mapped
+pub mod Running

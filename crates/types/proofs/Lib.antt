@@ -1,0 +1,2 @@
+-- A law about the start, for `start_mode`.
+pub mod Starts
