@@ -1,2 +1,3 @@
--- A law about the start, for `start_mode`.
+-- Laws that belong to no one function: the start, and the numbers of the cases.
 pub mod Starts
+pub mod Cases

@@ -3,7 +3,7 @@
 ghost use mathlib.Core.Path.{_≡_};
 ghost use Prim.Native.Nat.{_-_, _/_};
 ghost use lib.ListN.{length};
-ghost use Rattle.types.specs.Numbers.{errorNumber};
+ghost use Rattle.types.specs.Numbers.{errorNumber, modeNumber, constellationNumber, markNumber, knownConstellation, constellationOf, knownMode, modeOf, knownMark, markOf};
 ghost use Rattle.types.specs.Bits.{f32 as f32Of, f64 as f64Of};
 ghost use Rattle.types.specs.Start.{startMode, startState};
 
@@ -99,6 +99,13 @@ pub struct Equalized {
 pub enum Fresh {
     Made(EqualizeState),
     NotMade(Error),
+}
+
+// Whether a sample was heard: blank where it is not finite, spilled where it is finite and its filter sum is not.
+pub enum Mark {
+    Heard,
+    Blank,
+    Spilled,
 }
 
 // The update of the weights: a step with two floats, or none.
@@ -266,5 +273,124 @@ pub fn error_number(e: Error) -> u32
             expected: _,
             got: _,
         } => 10,
+    }
+}
+
+// The numbers of the marks: the bytes that a caller reads.
+impl Mark {
+    pub const HEARD: u8 = 0;
+
+    pub const BLANK: u8 = 1;
+
+    pub const SPILLED: u8 = 2;
+}
+
+pub fn mark_number(m: Mark) -> u8
+    ensures { λ r. ⌜ r ≡ markNumber m ⌝ }
+{
+    match m {
+        Mark::Heard => Mark::HEARD,
+        Mark::Blank => Mark::BLANK,
+        Mark::Spilled => Mark::SPILLED,
+    }
+}
+
+// Whether n is the number of a mark.
+pub fn known_mark(n: u8) -> bool
+    ensures { λ r. ⌜ r ≡ knownMark n ⌝ }
+{
+    (n == Mark::HEARD) | (n == Mark::BLANK) | (n == Mark::SPILLED)
+}
+
+// The mark with the number n; the last for a number of none.
+pub fn mark_of(n: u8) -> Mark
+    ensures { λ r. ⌜ r ≡ markOf n ⌝ }
+{
+    match n {
+        Mark::HEARD => Mark::Heard,
+        Mark::BLANK => Mark::Blank,
+        _ => Mark::Spilled,
+    }
+}
+
+// The numbers of the modes.
+impl EqMode {
+    pub const CMA: u32 = 0;
+
+    pub const DECISION: u32 = 1;
+}
+
+pub fn mode_number(m: EqMode) -> u32
+    ensures { λ r. ⌜ r ≡ modeNumber m ⌝ }
+{
+    match m {
+        EqMode::Cma => EqMode::CMA,
+        EqMode::Decision => EqMode::DECISION,
+    }
+}
+
+// Whether n is the number of a mode.
+pub fn known_mode(n: u32) -> bool
+    ensures { λ r. ⌜ r ≡ knownMode n ⌝ }
+{
+    (n == EqMode::CMA) | (n == EqMode::DECISION)
+}
+
+// The mode with the number n; the last for a number of none.
+pub fn mode_of(n: u32) -> EqMode
+    ensures { λ r. ⌜ r ≡ modeOf n ⌝ }
+{
+    match n {
+        EqMode::CMA => EqMode::Cma,
+        _ => EqMode::Decision,
+    }
+}
+
+// The numbers of the constellations.
+impl EqConstellation {
+    pub const BPSK: u32 = 0;
+
+    pub const QPSK: u32 = 1;
+
+    pub const PSK8: u32 = 2;
+
+    pub const QAM16: u32 = 3;
+
+    pub const QAM64: u32 = 4;
+}
+
+pub fn constellation_number(k: EqConstellation) -> u32
+    ensures { λ r. ⌜ r ≡ constellationNumber k ⌝ }
+{
+    match k {
+        EqConstellation::Bpsk => EqConstellation::BPSK,
+        EqConstellation::Qpsk => EqConstellation::QPSK,
+        EqConstellation::Psk8 => EqConstellation::PSK8,
+        EqConstellation::Qam16 => EqConstellation::QAM16,
+        EqConstellation::Qam64 => EqConstellation::QAM64,
+    }
+}
+
+// Whether n is the number of a constellation.
+pub fn known_constellation(n: u32) -> bool
+    ensures { λ r. ⌜ r ≡ knownConstellation n ⌝ }
+{
+    (n == EqConstellation::BPSK)
+        | (n == EqConstellation::QPSK)
+        | (n == EqConstellation::PSK8)
+        | (n == EqConstellation::QAM16)
+        | (n == EqConstellation::QAM64)
+}
+
+// The constellation with the number n; the last for a number of none.
+pub fn constellation_of(n: u32) -> EqConstellation
+    ensures { λ r. ⌜ r ≡ constellationOf n ⌝ }
+{
+    match n {
+        EqConstellation::BPSK => EqConstellation::Bpsk,
+        EqConstellation::QPSK => EqConstellation::Qpsk,
+        EqConstellation::PSK8 => EqConstellation::Psk8,
+        EqConstellation::QAM16 => EqConstellation::Qam16,
+        _ => EqConstellation::Qam64,
     }
 }

@@ -2,30 +2,23 @@ use borrow.Author.Tests.{eq-eqb, ne-eqb}
 use Rattle.capi.specs.Raw.{constellationOf}
 use Rattle.capi.proofs.constellation_of.Statement.{statement}
 use Rattle.capi.proofs.constellation_of.Tie as tie
-use Rattle.capi.proofs.constellation_of.Reads as reads
-use Rattle.capi.proofs.constellation_of.Lts as lts
 
--- src/lib.rt:67:9
 returns : tie.Need-returns
 unfolding constellationOf
 returns c = simp (eq-eqb _ _ (c .if1 .taken))
 
--- src/lib.rt:70:9
 returns-2 : tie.Need-returns-2
 unfolding constellationOf
 returns-2 c = simp (ne-eqb _ _ (c .before .if1 .left), eq-eqb _ _ (c .if2 .taken))
 
--- src/lib.rt:73:9
 returns-3 : tie.Need-returns-3
 unfolding constellationOf
 returns-3 c = simp (ne-eqb _ _ (c .before .before .if1 .left), ne-eqb _ _ (c .before .if2 .left), eq-eqb _ _ (c .if3 .taken))
 
--- src/lib.rt:76:9
 returns-4 : tie.Need-returns-4
 unfolding constellationOf
 returns-4 c = simp (ne-eqb _ _ (c .before .before .before .if1 .left), ne-eqb _ _ (c .before .before .if2 .left), ne-eqb _ _ (c .before .if3 .left), eq-eqb _ _ (c .if4 .taken))
 
--- src/lib.rt:63:1
 returns-5 : tie.Need-returns-5
 unfolding constellationOf
 returns-5 c = simp (ne-eqb _ _ (c .before .before .before .if1 .left), ne-eqb _ _ (c .before .before .if2 .left), ne-eqb _ _ (c .before .if3 .left), ne-eqb _ _ (c .if4 .left))

@@ -2,10 +2,7 @@ use borrow.Author.Needs.{needs}
 use Rattle.capi.specs.Raw.{knownRecord}
 use Rattle.capi.proofs.known_record.Statement.{statement}
 use Rattle.capi.proofs.known_record.Tie as tie
-use Rattle.capi.proofs.known_record.Reads as reads
-use Rattle.capi.proofs.known_record.Lts as lts
 
--- src/lib.rt:57:1
 returns : tie.Need-returns
 unfolding knownRecord
 returns c = search needs

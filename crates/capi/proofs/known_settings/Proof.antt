@@ -2,10 +2,7 @@ use borrow.Author.Needs.{needs}
 use Rattle.capi.specs.Raw.{knownSettings}
 use Rattle.capi.proofs.known_settings.Statement.{statement}
 use Rattle.capi.proofs.known_settings.Tie as tie
-use Rattle.capi.proofs.known_settings.Reads as reads
-use Rattle.capi.proofs.known_settings.Lts as lts
 
--- src/lib.rt:51:1
 returns : tie.Need-returns
 unfolding knownSettings
 returns c = search needs

@@ -2,15 +2,11 @@ use borrow.Author.Tests.{eq-eqb, ne-eqb}
 use Rattle.capi.specs.Raw.{modeOf}
 use Rattle.capi.proofs.mode_of.Statement.{statement}
 use Rattle.capi.proofs.mode_of.Tie as tie
-use Rattle.capi.proofs.mode_of.Reads as reads
-use Rattle.capi.proofs.mode_of.Lts as lts
 
--- src/lib.rt:97:9
 returns : tie.Need-returns
 unfolding modeOf
 returns c = simp (eq-eqb _ _ (c .if1 .taken))
 
--- src/lib.rt:93:1
 returns-2 : tie.Need-returns-2
 unfolding modeOf
 returns-2 c = simp (ne-eqb _ _ (c .if1 .left))

@@ -2,10 +2,7 @@ use borrow.Author.Needs.{needs}
 use Rattle.capi.specs.Raw.{noRecord}
 use Rattle.capi.proofs.no_record.Statement.{statement}
 use Rattle.capi.proofs.no_record.Tie as tie
-use Rattle.capi.proofs.no_record.Reads as reads
-use Rattle.capi.proofs.no_record.Lts as lts
 
--- src/lib.rt:178:1
 returns : tie.Need-returns
 unfolding noRecord
 returns c = search needs

@@ -2,15 +2,10 @@ use Rattle.capi.specs.Raw.{settingsOut}
 use borrow.Author.Needs.{needs}
 use Rattle.capi.proofs.settings_out.Statement.{statement}
 use Rattle.capi.proofs.settings_out.Tie as tie
-use Rattle.capi.proofs.settings_out.Reads as reads
-use Rattle.capi.proofs.settings_out.Lts as lts
-use Rattle.capi.proofs.constellation_number.Reads as constellation-number-reads
 
--- src/lib.rt:147:9
 constellation-number-requires : tie.Need-constellation-number-requires
 constellation-number-requires c κs = search needs
 
--- src/lib.rt:143:1
 returns : tie.Need-returns
 unfolding settingsOut
 returns c = cc

@@ -3,23 +3,16 @@ use Rattle.capi.proofs.Laws.{unknown-8, unknown-1}
 use borrow.Author.Needs.{needs}
 use Rattle.capi.proofs.unknown.Statement.{statement}
 use Rattle.capi.proofs.unknown.Tie as tie
-use Rattle.capi.proofs.unknown.Reads as reads
-use Rattle.capi.proofs.unknown.Lts as lts
-use Rattle.capi.proofs.refused.Reads as refused-reads
 
--- src/lib.rt:267:9
 refused-requires : tie.Need-refused-requires
 refused-requires c κs = search needs
 
--- src/lib.rt:267:9
 returns : tie.Need-returns
 returns c = search (unknown-8, not-false)
 
--- src/lib.rt:269:5
 refused-requires-2 : tie.Need-refused-requires-2
 refused-requires-2 c κs = search needs
 
--- src/lib.rt:263:1
 returns-2 : tie.Need-returns-2
 returns-2 c = search (unknown-1, not-true)
 

@@ -3,50 +3,34 @@ use denote.Ref.{now}
 use Rattle.equalize.proofs.Calls.{new-refused, new-done, new-fits}
 use Rattle.equalize.proofs.new.Statement.{statement}
 use Rattle.equalize.proofs.new.Tie as tie
-use Rattle.equalize.proofs.new.Reads as reads
-use Rattle.equalize.proofs.new.Lts as lts
-use Rattle.equalize.proofs.fresh_state.Reads as fresh-state-reads
-use Rattle.record.proofs.rules.forward.Reads as forward-reads
-use Rattle.equalize.proofs.start_over.Reads as start-over-reads
-use Rattle.record.proofs.verdict.new_verdict.Reads as new-verdict-reads
 
--- src/lib.rt:44:9
 new-verdict-requires : tie.Need-new-verdict-requires
 new-verdict-requires c κs = search needs
 
--- src/lib.rt:46:26
 enum-known-v : tie.Need-enum-known-v
 enum-known-v c = search needs
 
--- src/lib.rt:48:21
 enum-told : tie.Need-enum-told
 enum-told c = search needs
 
--- src/lib.rt:49:17
 forward-requires : tie.Need-forward-requires
 forward-requires c κs = search needs
 
--- src/lib.rt:50:13
 start-over-requires : tie.Need-start-over-requires
 start-over-requires c κs = new-fits _ (now (c .before .before .before .before .before .before .before .before .args .weights)) (now (c .before .before .before .before .before .before .before .before .args .window)) _ (c .before .before .before .before .before .new-verdict .ensures) (c .before .before .before .enum-told .given .1) _ (c .before .before .forward .ensures)
 
--- src/lib.rt:51:25
 fresh-state-requires : tie.Need-fresh-state-requires
 fresh-state-requires c κs = search needs
 
--- src/lib.rt:41:1
 returns : tie.Need-returns
 returns c = search new-refused
 
--- src/lib.rt:41:1
 same-length : tie.Need-same-length
 same-length c = search needs
 
--- src/lib.rt:41:1
 same-length-2 : tie.Need-same-length-2
 same-length-2 c = search needs
 
--- src/lib.rt:41:1
 returns-2 : tie.Need-returns-2
 returns-2 c = search new-done
 

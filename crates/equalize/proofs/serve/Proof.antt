@@ -1,56 +1,40 @@
 use borrow.Author.Needs.{needs}
 use Rattle.equalize.proofs.serve.Statement.{statement}
 use Rattle.equalize.proofs.serve.Tie as tie
-use Rattle.equalize.proofs.serve.Reads as reads
-use Rattle.equalize.proofs.serve.Lts as lts
-use Rattle.plain.proofs.run.Reads as run-reads
-use Rattle.runs.proofs.equalize_runs.Reads as equalize-runs-reads
 
--- src/lib.rt:145:9
 run-requires : tie.Need-run-requires
 run-requires c κs = search needs
 
--- src/lib.rt:147:9
 equalize-runs-requires : tie.Need-equalize-runs-requires
 equalize-runs-requires c κs = search needs
 
--- src/lib.rt:131:1
 same-length : tie.Need-same-length
 same-length c = search needs
 
--- src/lib.rt:131:1
 same-length-2 : tie.Need-same-length-2
 same-length-2 c = search needs
 
--- src/lib.rt:131:1
 same-length-3 : tie.Need-same-length-3
 same-length-3 c = search needs
 
--- src/lib.rt:131:1
 same-length-4 : tie.Need-same-length-4
 same-length-4 c = search needs
 
--- src/lib.rt:131:1
 returns : tie.Need-returns
 returns c = search needs
 
--- src/lib.rt:131:1
 same-length-5 : tie.Need-same-length-5
 same-length-5 c = search needs
 
--- src/lib.rt:131:1
 same-length-6 : tie.Need-same-length-6
 same-length-6 c = search needs
 
--- src/lib.rt:131:1
 same-length-7 : tie.Need-same-length-7
 same-length-7 c = search needs
 
--- src/lib.rt:131:1
 same-length-8 : tie.Need-same-length-8
 same-length-8 c = search needs
 
--- src/lib.rt:131:1
 returns-2 : tie.Need-returns-2
 returns-2 c = search needs
 

@@ -2,19 +2,13 @@ use borrow.Author.Needs.{needs}
 use Rattle.equalize.proofs.Calls.{freq-nan, freq-number}
 use Rattle.equalize.proofs.set_frequency.Statement.{statement}
 use Rattle.equalize.proofs.set_frequency.Tie as tie
-use Rattle.equalize.proofs.set_frequency.Reads as reads
-use Rattle.equalize.proofs.set_frequency.Lts as lts
-use Rattle.costas.proofs.integrate.Reads as integrate-reads
 
--- src/lib.rt:120:9
 returns : tie.Need-returns
 returns c = search freq-nan
 
--- src/lib.rt:122:5
 integrate-requires : tie.Need-integrate-requires
 integrate-requires c κs = search needs
 
--- src/lib.rt:114:1
 returns-2 : tie.Need-returns-2
 returns-2 c = search freq-number
 

@@ -3,19 +3,13 @@ use borrow.Author.Tests.{not-true, not-false}
 use Rattle.equalize.proofs.Calls.{dd-no, dd-yes}
 use Rattle.equalize.proofs.set_mu_dd.Statement.{statement}
 use Rattle.equalize.proofs.set_mu_dd.Tie as tie
-use Rattle.equalize.proofs.set_mu_dd.Reads as reads
-use Rattle.equalize.proofs.set_mu_dd.Lts as lts
-use Rattle.record.proofs.rules.check_mu.Reads as check-mu-reads
 
--- src/lib.rt:99:9
 check-mu-requires : tie.Need-check-mu-requires
 check-mu-requires c κs = search needs
 
--- src/lib.rt:100:9
 returns : tie.Need-returns
 returns c = search (dd-no, not-true)
 
--- src/lib.rt:96:1
 returns-2 : tie.Need-returns-2
 returns-2 c = search (dd-yes, not-false)
 

@@ -3,28 +3,19 @@ use denote.Ref.{now}
 use Rattle.equalize.proofs.Calls.{cleared}
 use Rattle.equalize.proofs.start_over.Statement.{statement}
 use Rattle.equalize.proofs.start_over.Tie as tie
-use Rattle.equalize.proofs.start_over.Reads as reads
-use Rattle.equalize.proofs.start_over.Lts as lts
-use Rattle.record.proofs.slices.clear.Reads as clear-reads
-use Rattle.record.proofs.slices.start_weights.Reads as start-weights-reads
 
--- src/lib.rt:28:5
 start-weights-requires : tie.Need-start-weights-requires
 start-weights-requires c κs = search needs
 
--- src/lib.rt:29:5
 clear-requires : tie.Need-clear-requires
 clear-requires c κs = search needs
 
--- src/lib.rt:24:1
 same-length : tie.Need-same-length
 same-length c = search needs
 
--- src/lib.rt:24:1
 same-length-2 : tie.Need-same-length-2
 same-length-2 c = search needs
 
--- src/lib.rt:24:1
 returns : tie.Need-returns
 returns c = let x = c .before .before .before .before .before .before in (x .start-weights .ensures, cleared (now (x .before .before .before .before .args .h)) _ _ (x .before .before .before .before .pre .1 .0) (c .before .before .clear .ensures))
 

@@ -6,9 +6,6 @@ use Rattle.lanes.specs.Arrays.{arrays}
 use Rattle.onerun.proofs.Going.{Going, going-none, going-more, going-all}
 use Rattle.onerun.proofs.run.Statement.{statement}
 use Rattle.onerun.proofs.run.Tie as tie
-use Rattle.onerun.proofs.run.Reads as reads
-use Rattle.onerun.proofs.run.Lts as lts
-use Rattle.onerun.proofs.sample.Reads as sample-reads
 
 abbrev Inv-loop : tie.InvT-loop
 Inv-loop t g wr₀ wi₀ limit xr₀ xi₀ q₀ power steps input output₀ marks₀ s₀ k₀ wr wi xr xi q output marks s k =
@@ -18,103 +15,78 @@ abbrev μ-loop : tie.MeasureT-loop
 μ-loop t g wr₀ wi₀ limit xr₀ xi₀ q₀ power steps input output₀ marks₀ s₀ k₀ wr wi xr xi q output marks s k =
     length marks - k
 
--- src/lib.rt:255:5
 loop-holds : tie.Need-loop-holds Inv-loop μ-loop
 loop-holds c = going-none _ _ _ _ _ _ _ _ _ (c .before .before .before .pre .1 .1 .1 .0) (c .before .before .before .pre .1 .1 .1 .1) (c .before .before .before .pre .1 .0 .0) (c .before .before .before .pre .1 .0 .1 .0) (c .before .before .before .pre .1 .0 .1 .1)
 
--- src/lib.rt:256:18
 sub-at : tie.Need-sub-at Inv-loop μ-loop
 sub-at c = search needs
 
--- src/lib.rt:257:17
 mul-j : tie.Need-mul-j Inv-loop μ-loop
 mul-j c = search needs
 
--- src/lib.rt:259:17
 mul-sample : tie.Need-mul-sample Inv-loop μ-loop
 mul-sample c = search needs
 
--- src/lib.rt:259:17
 shared-slice-read-sample : tie.Need-shared-slice-read-sample Inv-loop μ-loop
 shared-slice-read-sample c = search needs
 
--- src/lib.rt:260:23
 add-sample : tie.Need-add-sample Inv-loop μ-loop
 add-sample c = search needs
 
--- src/lib.rt:260:17
 mul-sample-2 : tie.Need-mul-sample-2 Inv-loop μ-loop
 mul-sample-2 c = search needs
 
--- src/lib.rt:260:17
 shared-slice-read-sample-2 : tie.Need-shared-slice-read-sample-2 Inv-loop μ-loop
 shared-slice-read-sample-2 c = search needs
 
--- src/lib.rt:268:13
 mul-sample-3 : tie.Need-mul-sample-3 Inv-loop μ-loop
 mul-sample-3 c = search needs
 
--- src/lib.rt:268:13
 element-copy-out-sample : tie.Need-element-copy-out-sample Inv-loop μ-loop
 element-copy-out-sample c = search needs
 
--- src/lib.rt:269:13
 mul-sample-4 : tie.Need-mul-sample-4 Inv-loop μ-loop
 mul-sample-4 c = search needs
 
--- src/lib.rt:269:13
 element-copy-out-sample-2 : tie.Need-element-copy-out-sample-2 Inv-loop μ-loop
 element-copy-out-sample-2 c = search needs
 
--- src/lib.rt:262:13
 sample-requires : tie.Need-sample-requires Inv-loop μ-loop
 sample-requires c κs = (c .before .before .before .before .before .before .before .before .before .before .before .before .before .before .pre .0, ((omega arith, c .before .before .before .before .before .before .before .before .before .before .before .before .before .before .pre .1 .1 .0), (c .before .before .before .before .before .before .before .before .before .before .loop .inv .lanes, c .before .before .before .before .before .before .before .before .before .before .loop .inv .counts)))
 
--- src/lib.rt:278:9
 mul-output : tie.Need-mul-output Inv-loop μ-loop
 mul-output c = omega (arith, c .before .before .before .before .before .before .before .before .before .before .before .before .loop .inv .here, c .before .before .before .before .before .before .before .before .before .before .before .before .loop .inv .most, c .before .before .before .before .before .before .before .before .before .before .before .before .loop .inv .input, c .before .before .before .before .before .before .before .before .before .before .before .before .loop .inv .output, c .before .before .before .before .before .before .before .before .before .before .before .loop-test .taken)
 
--- src/lib.rt:278:9
 slice-write-output : tie.Need-slice-write-output Inv-loop μ-loop
 slice-write-output c = omega (arith, c .before .before .before .before .before .before .before .before .before .before .before .before .loop .inv .here, c .before .before .before .before .before .before .before .before .before .before .before .before .loop .inv .most, c .before .before .before .before .before .before .before .before .before .before .before .before .loop .inv .input, c .before .before .before .before .before .before .before .before .before .before .before .before .loop .inv .output, c .before .before .before .before .before .before .before .before .before .before .before .loop-test .taken)
 
--- src/lib.rt:279:16
 add-output : tie.Need-add-output Inv-loop μ-loop
 add-output c = omega (arith, c .before .before .before .before .before .before .before .before .before .before .before .before .loop .inv .here, c .before .before .before .before .before .before .before .before .before .before .before .before .loop .inv .most, c .before .before .before .before .before .before .before .before .before .before .before .before .loop .inv .input, c .before .before .before .before .before .before .before .before .before .before .before .before .loop .inv .output, c .before .before .before .before .before .before .before .before .before .before .before .loop-test .taken)
 
--- src/lib.rt:279:9
 mul-output-2 : tie.Need-mul-output-2 Inv-loop μ-loop
 mul-output-2 c = omega (arith, c .before .before .before .before .before .before .before .before .before .before .before .before .loop .inv .here, c .before .before .before .before .before .before .before .before .before .before .before .before .loop .inv .most, c .before .before .before .before .before .before .before .before .before .before .before .before .loop .inv .input, c .before .before .before .before .before .before .before .before .before .before .before .before .loop .inv .output, c .before .before .before .before .before .before .before .before .before .before .before .loop-test .taken)
 
--- src/lib.rt:279:9
 slice-write-output-2 : tie.Need-slice-write-output-2 Inv-loop μ-loop
 slice-write-output-2 c = simp length-set (omega (arith, c .before .before .before .before .before .before .before .before .before .before .before .before .loop .inv .here, c .before .before .before .before .before .before .before .before .before .before .before .before .loop .inv .most, c .before .before .before .before .before .before .before .before .before .before .before .before .loop .inv .input, c .before .before .before .before .before .before .before .before .before .before .before .before .loop .inv .output, c .before .before .before .before .before .before .before .before .before .before .before .loop-test .taken))
 
--- src/lib.rt:280:9
 slice-write-marks : tie.Need-slice-write-marks Inv-loop μ-loop
 slice-write-marks c = search needs
 
--- src/lib.rt:283:9
 add-k : tie.Need-add-k Inv-loop μ-loop
 add-k c = omega (arith, c .before .before .before .before .before .before .before .before .before .before .before .before .before .loop .inv .here, c .before .before .before .before .before .before .before .before .before .before .before .before .before .loop .inv .most, c .before .before .before .before .before .before .before .before .before .before .before .before .before .loop .inv .input, c .before .before .before .before .before .before .before .before .before .before .before .before .before .loop .inv .output, c .before .before .before .before .before .before .before .before .before .before .before .before .loop-test .taken)
 
--- src/lib.rt:255:5
 loop-less : tie.Need-loop-less Inv-loop μ-loop
 loop-less c = simp length-set (omega (arith, c .before .before .before .before .before .before .before .before .before .before .before .before .before .loop .inv .here, c .before .before .before .before .before .before .before .before .before .before .before .before .before .loop .inv .most, c .before .before .before .before .before .before .before .before .before .before .before .before .before .loop .inv .input, c .before .before .before .before .before .before .before .before .before .before .before .before .before .loop .inv .output, c .before .before .before .before .before .before .before .before .before .before .before .before .loop-test .taken))
 
--- src/lib.rt:255:5
 loop-again : tie.Need-loop-again Inv-loop μ-loop
 loop-again c = going-more _ _ _ _ _ _ _ _ _ _ _ _ _ _ (c .before .before .before .before .before .before .before .before .before .before .before .before .before .loop .inv) _ _ (c .before .before .before .before .before .before .before .before .before .before .before .before .loop-test .taken) (c .before .before .sample .ensures)
 
--- src/lib.rt:226:1
 same-length : tie.Need-same-length Inv-loop μ-loop
 same-length c = search needs
 
--- src/lib.rt:226:1
 same-length-2 : tie.Need-same-length-2 Inv-loop μ-loop
 same-length-2 c = search needs
 
--- src/lib.rt:226:1
 returns : tie.Need-returns Inv-loop μ-loop
 returns c = going-all _ _ _ _ _ _ _ _ _ _ _ _ _ _ (c .before .loop .inv) (c .loop-test .left)
 

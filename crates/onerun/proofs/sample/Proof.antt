@@ -3,34 +3,22 @@ use native.Mathlib.Omega.{arith}
 use borrow.Author.Needs.{needs}
 use Rattle.onerun.proofs.sample.Statement.{statement}
 use Rattle.onerun.proofs.sample.Tie as tie
-use Rattle.onerun.proofs.sample.Reads as reads
-use Rattle.onerun.proofs.sample.Lts as lts
-use Rattle.lanes.proofs.run.feed.Reads as feed-reads
-use Rattle.record.proofs.mode.advance.Reads as advance-reads
-use Rattle.onerun.proofs.take.Reads as take-reads
-use Rattle.steps.proofs.with_track.Reads as with-track-reads
 
--- src/lib.rt:238:9
 take-requires : tie.Need-take-requires
 take-requires c κs = (c .before .before .before .before .before .pre .0, (c .before .before .before .before .before .pre .1 .0, c .before .before .before .before .before .pre .1 .1 .0))
 
--- src/lib.rt:256:33
 add-feed : tie.Need-add-feed
 add-feed c = search needs
 
--- src/lib.rt:256:5
 feed-requires : tie.Need-feed-requires
 feed-requires c κs = search needs
 
--- src/lib.rt:257:39
 with-track-requires : tie.Need-with-track-requires
 with-track-requires c κs = search needs
 
--- src/lib.rt:257:9
 advance-requires : tie.Need-advance-requires
 advance-requires c κs = track-r4 _ _ _ (c .before .before .before .before .before .before .before .before .before .before .before .before .before .before .pre .1 .1 .1) (c .with-track .ensures)
 
--- src/lib.rt:215:1
 returns : tie.Need-returns
 returns c = sampled _ _ _ _ _ _ _ _ _ _ _ _ _ _ _ _ _ _ _ _ (c .before .before .before .before .before .before .before .before .before .before .before .before .before .before .before .pre .1 .0 .0) (c .before .before .before .before .before .before .before .before .before .before .before .before .before .before .before .pre .1 .1 .1) (c .before .before .before .before .before .before .before .before .before .take .ensures) (c .before .before .feed .ensures .0) (c .before .before .feed .ensures .1 .0) (c .before .before .feed .ensures .1 .1) (c .before .with-track .ensures) (c .advance .ensures)
 

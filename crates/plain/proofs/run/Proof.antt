@@ -6,9 +6,6 @@ use Rattle.definition.specs.Packed.{equalizer}
 use Rattle.plain.proofs.Folding.{Running, run-none, run-more, run-all}
 use Rattle.plain.proofs.run.Statement.{statement}
 use Rattle.plain.proofs.run.Tie as tie
-use Rattle.plain.proofs.run.Reads as reads
-use Rattle.plain.proofs.run.Lts as lts
-use Rattle.plain.proofs.sample.Reads as sample-reads
 
 abbrev Inv-loop : tie.InvT-loop
 Inv-loop weights₀ window₀ input output₀ marks₀ s₀ i₀ k₀ weights window output marks s i k =
@@ -18,91 +15,69 @@ abbrev μ-loop : tie.MeasureT-loop
 μ-loop weights₀ window₀ input output₀ marks₀ s₀ i₀ k₀ weights window output marks s i k =
     length marks - i
 
--- src/lib.rt:203:5
 loop-holds : tie.Need-loop-holds Inv-loop μ-loop
 loop-holds c = search run-none
 
--- src/lib.rt:205:17
 mul-t14 : tie.Need-mul-t14 Inv-loop μ-loop
 mul-t14 c = search needs
 
--- src/lib.rt:205:17
 shared-slice-read-t17 : tie.Need-shared-slice-read-t17 Inv-loop μ-loop
 shared-slice-read-t17 c = search needs
 
--- src/lib.rt:206:23
 add-t18 : tie.Need-add-t18 Inv-loop μ-loop
 add-t18 c = search needs
 
--- src/lib.rt:206:17
 mul-t19 : tie.Need-mul-t19 Inv-loop μ-loop
 mul-t19 c = search needs
 
--- src/lib.rt:206:17
 shared-slice-read-t21 : tie.Need-shared-slice-read-t21 Inv-loop μ-loop
 shared-slice-read-t21 c = search needs
 
--- src/lib.rt:208:13
 sample-requires : tie.Need-sample-requires Inv-loop μ-loop
 sample-requires c κs = search needs
 
--- src/lib.rt:210:9
 mul-output : tie.Need-mul-output Inv-loop μ-loop
 mul-output c = let at = c .before .before .before .before .before .before .before .before .before .before in omega (arith, at)
 
--- src/lib.rt:210:9
 slice-write-output : tie.Need-slice-write-output Inv-loop μ-loop
 slice-write-output c = search needs
 
--- src/lib.rt:211:16
 add-output : tie.Need-add-output Inv-loop μ-loop
 add-output c = let at = c .before .before .before .before .before .before .before .before .before .before in omega (arith, at)
 
--- src/lib.rt:211:9
 mul-output-2 : tie.Need-mul-output-2 Inv-loop μ-loop
 mul-output-2 c = let at = c .before .before .before .before .before .before .before .before .before .before in omega (arith, at)
 
--- src/lib.rt:211:9
 slice-write-output-2 : tie.Need-slice-write-output-2 Inv-loop μ-loop
 slice-write-output-2 c = simp length-set (omega arith)
 
--- src/lib.rt:212:9
 slice-write-marks : tie.Need-slice-write-marks Inv-loop μ-loop
 slice-write-marks c = search needs
 
--- src/lib.rt:215:9
 add-i : tie.Need-add-i Inv-loop μ-loop
 add-i c = let at = c .before .before .before .before .before .before .before .before .before .before .before in omega (arith, at)
 
--- src/lib.rt:216:9
 add-k : tie.Need-add-k Inv-loop μ-loop
 add-k c = let at = c .before .before .before .before .before .before .before .before .before .before .before in omega (arith, at)
 
--- src/lib.rt:203:5
 loop-less : tie.Need-loop-less Inv-loop μ-loop
 loop-less c = simp length-set (omega arith)
 
--- src/lib.rt:203:5
 loop-again : tie.Need-loop-again Inv-loop μ-loop
 loop-again c = search run-more
 
--- src/lib.rt:186:1
 same-length : tie.Need-same-length Inv-loop μ-loop
 same-length c = search needs
 
--- src/lib.rt:186:1
 same-length-2 : tie.Need-same-length-2 Inv-loop μ-loop
 same-length-2 c = search needs
 
--- src/lib.rt:186:1
 same-length-3 : tie.Need-same-length-3 Inv-loop μ-loop
 same-length-3 c = search needs
 
--- src/lib.rt:186:1
 same-length-4 : tie.Need-same-length-4 Inv-loop μ-loop
 same-length-4 c = search needs
 
--- src/lib.rt:186:1
 returns : tie.Need-returns Inv-loop μ-loop
 returns c = search run-all
 

@@ -5,36 +5,26 @@ use mathlib.Core.Path.{refl}
 use Rattle.tables.specs.Table.{cosBits}
 use Rattle.runs.proofs.equalize_runs.Statement.{statement}
 use Rattle.runs.proofs.equalize_runs.Tie as tie
-use Rattle.runs.proofs.equalize_runs.Reads as reads
-use Rattle.runs.proofs.equalize_runs.Lts as lts
-use Rattle.runs.proofs.block.equalize.Reads as equalize-reads
 
--- src/lib.rt:31:13
 sub-n : tie.Need-sub-n
 sub-n c = omega (arith, feedback-fits _ _ _ _ _ _ (c .before .before .before .before .before .before .before .pre))
 
--- src/lib.rt:32:5
 equalize-requires : tie.Need-equalize-requires
 unfolding cosBits
 equalize-requires c κs = (refl, search needs)
 
--- src/lib.rt:15:1
 same-length : tie.Need-same-length
 same-length c = search needs
 
--- src/lib.rt:15:1
 same-length-2 : tie.Need-same-length-2
 same-length-2 c = search needs
 
--- src/lib.rt:15:1
 same-length-3 : tie.Need-same-length-3
 same-length-3 c = search needs
 
--- src/lib.rt:15:1
 same-length-4 : tie.Need-same-length-4
 same-length-4 c = search needs
 
--- src/lib.rt:15:1
 returns : tie.Need-returns
 returns c = search needs
 

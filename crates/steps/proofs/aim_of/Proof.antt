@@ -2,41 +2,28 @@ use borrow.Author.Needs.{needs}
 use Rattle.steps.proofs.Exits.{aim-cma, aim-decision}
 use Rattle.steps.proofs.aim_of.Statement.{statement}
 use Rattle.steps.proofs.aim_of.Tie as tie
-use Rattle.steps.proofs.aim_of.Reads as reads
-use Rattle.steps.proofs.aim_of.Lts as lts
-use Rattle.constellation.proofs.cma_r2.Reads as cma-r2-reads
-use Rattle.costas.proofs.rotate.Reads as rotate-reads
-use Rattle.steps.proofs.modulus.Reads as modulus-reads
 
--- src/lib.rt:105:27
 enum-told : tie.Need-enum-told
 enum-told c = search needs
 
--- src/lib.rt:105:27
 cma-r2-requires : tie.Need-cma-r2-requires
 cma-r2-requires c κs = search needs
 
--- src/lib.rt:105:16
 modulus-requires : tie.Need-modulus-requires
 modulus-requires c κs = search needs
 
--- src/lib.rt:109:16
 enum-told-2 : tie.Need-enum-told-2
 enum-told-2 c = search needs
 
--- src/lib.rt:109:16
 rotate-requires : tie.Need-rotate-requires
 rotate-requires c κs = search needs
 
--- src/lib.rt:110:18
 rotate-requires-2 : tie.Need-rotate-requires-2
 rotate-requires-2 c κs = search needs
 
--- src/lib.rt:97:1
 returns : tie.Need-returns
 returns c = search aim-cma
 
--- src/lib.rt:97:1
 returns-2 : tie.Need-returns-2
 returns-2 c = search aim-decision
 

@@ -2,14 +2,10 @@ use borrow.Author.Needs.{needs}
 use Rattle.steps.proofs.Exits.{fed-no}
 use Rattle.steps.proofs.fed_if.Statement.{statement}
 use Rattle.steps.proofs.fed_if.Tie as tie
-use Rattle.steps.proofs.fed_if.Reads as reads
-use Rattle.steps.proofs.fed_if.Lts as lts
 
--- src/lib.rt:131:9
 returns : tie.Need-returns
 returns c = search needs
 
--- src/lib.rt:127:1
 returns-2 : tie.Need-returns-2
 returns-2 c = search fed-no
 

@@ -2,22 +2,16 @@ use borrow.Author.Needs.{needs}
 use Rattle.steps.proofs.Exits.{size-cma, size-decision}
 use Rattle.steps.proofs.size_of.Statement.{statement}
 use Rattle.steps.proofs.size_of.Tie as tie
-use Rattle.steps.proofs.size_of.Reads as reads
-use Rattle.steps.proofs.size_of.Lts as lts
 
--- src/lib.rt:177:36
 enum-told : tie.Need-enum-told
 enum-told c = search needs
 
--- src/lib.rt:178:40
 enum-told-2 : tie.Need-enum-told-2
 enum-told-2 c = search needs
 
--- src/lib.rt:59:1
 returns : tie.Need-returns
 returns c = search size-cma
 
--- src/lib.rt:59:1
 returns-2 : tie.Need-returns-2
 returns-2 c = search size-decision
 

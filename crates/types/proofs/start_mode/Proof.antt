@@ -2,14 +2,10 @@ use borrow.Author.Needs.{needs}
 use Rattle.types.proofs.Starts.{mode-none, mode-some}
 use Rattle.types.proofs.start_mode.Statement.{statement}
 use Rattle.types.proofs.start_mode.Tie as tie
-use Rattle.types.proofs.start_mode.Reads as reads
-use Rattle.types.proofs.start_mode.Lts as lts
 
--- src/lib.rt:135:9
 returns : tie.Need-returns
 returns c = search mode-none
 
--- src/lib.rt:131:1
 returns-2 : tie.Need-returns-2
 returns-2 c = search mode-some
 

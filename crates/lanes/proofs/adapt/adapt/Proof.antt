@@ -7,36 +7,25 @@ use borrow.Author.Needs.{needs}
 use borrow.Author.Needs.{needs}
 use Rattle.lanes.proofs.adapt.adapt.Statement.{statement}
 use Rattle.lanes.proofs.adapt.adapt.Tie as tie
-use Rattle.lanes.proofs.adapt.adapt.Reads as reads
-use Rattle.lanes.proofs.adapt.adapt.Lts as lts
-use Rattle.lanes.proofs.adapt.lanes_step.Reads as lanes-step-reads
-use Rattle.lanes.proofs.adapt.settle.Reads as settle-reads
 
--- src/adapt.rt:154:22
 enum-known-u : tie.Need-enum-known-u
 enum-known-u c = search needs
 
--- src/adapt.rt:155:9
 enum-told : tie.Need-enum-told
 enum-told c = search needs
 
--- src/adapt.rt:155:9
 returns : tie.Need-returns
 returns c = (adapt-hold _ _ _ _ _ _ _ _ _ _ _ (c .enum-told .given .1), c .before .before .pre .0)
 
--- src/adapt.rt:157:9
 lanes-step-requires : tie.Need-lanes-step-requires
 lanes-step-requires c κs = search needs
 
--- src/adapt.rt:158:9
 lanes-step-requires-2 : tie.Need-lanes-step-requires-2
 lanes-step-requires-2 c κs = search needs
 
--- src/adapt.rt:160:9
 settle-requires : tie.Need-settle-requires
 settle-requires c κs = search needs
 
--- src/adapt.rt:135:1
 returns-2 : tie.Need-returns-2
 returns-2 c =
     let s = c .before .before .before .before .before .before .before .lanes-step .ensures in
@@ -44,7 +33,6 @@ returns-2 c =
     let p = c .before .before .before .before .before .before .before .before .before .before .before .before .before .pre .0 in
     (adapt-settled _ _ _ _ _ _ _ _ _ _ _ _ _ _ _ _ (s .0) (s .1 .0) (t .0) (t .1 .0) _ _ _ (c .before .before .before .before .before .before .before .before .before .before .before .u .given .1) (c .settle .ensures), settled-long _ _ _ _ _ _ (t .0 .long ∙ s .0 .long ∙ p .0) (t .1 .0 .long ∙ s .1 .0 .long ∙ p .1) (c .settle .ensures))
 
--- src/adapt.rt:135:1
 returns-3 : tie.Need-returns-3
 returns-3 c =
     let s = c .before .before .before .before .lanes-step .ensures in

@@ -6,10 +6,7 @@ use native.Mathlib.Omega.{arith}
 use borrow.Author.Needs.{needs}
 use Rattle.lanes.proofs.adapt.apart.Statement.{statement}
 use Rattle.lanes.proofs.adapt.apart.Tie as tie
-use Rattle.lanes.proofs.adapt.apart.Reads as reads
-use Rattle.lanes.proofs.adapt.apart.Lts as lts
 
--- src/adapt.rt:16:1
 returns : tie.Need-returns
 unfolding uneven
 returns c = search needs

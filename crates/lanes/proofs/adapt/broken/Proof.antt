@@ -8,9 +8,6 @@ use native.Mathlib.Omega.{arith}
 use borrow.Author.Needs.{needs}
 use Rattle.lanes.proofs.adapt.broken.Statement.{statement}
 use Rattle.lanes.proofs.adapt.broken.Tie as tie
-use Rattle.lanes.proofs.adapt.broken.Reads as reads
-use Rattle.lanes.proofs.adapt.broken.Lts as lts
-use Rattle.lanes.proofs.adapt.broken_at.Reads as broken-at-reads
 
 abbrev Inv-loop : tie.InvT-loop
 Inv-loop wr wi limit from bad₀ i₀ bad i = (i ≤ 72) × (bad ≡ anyOf i (λ i. brokenAt (getD wr (from + i) nan) (getD wi (from + i) nan) (getD limit (from + i) nan)))
@@ -18,55 +15,42 @@ Inv-loop wr wi limit from bad₀ i₀ bad i = (i ≤ 72) × (bad ≡ anyOf i (λ
 abbrev μ-loop : tie.MeasureT-loop
 μ-loop wr wi limit from bad₀ i₀ bad i = 72 - i
 
--- src/adapt.rt:84:5
 loop-holds : tie.Need-loop-holds Inv-loop μ-loop
 loop-holds c = (search needs, any-none _)
 
--- src/adapt.rt:85:17
 add-k : tie.Need-add-k Inv-loop μ-loop
 add-k c = search needs
 
--- src/adapt.rt:86:31
 mul-broken-at : tie.Need-mul-broken-at Inv-loop μ-loop
 mul-broken-at c = search needs
 
--- src/adapt.rt:86:31
 element-copy-out-broken-at : tie.Need-element-copy-out-broken-at Inv-loop μ-loop
 element-copy-out-broken-at c = search needs
 
--- src/adapt.rt:86:38
 mul-broken-at-2 : tie.Need-mul-broken-at-2 Inv-loop μ-loop
 mul-broken-at-2 c = search needs
 
--- src/adapt.rt:86:38
 element-copy-out-broken-at-2 : tie.Need-element-copy-out-broken-at-2 Inv-loop μ-loop
 element-copy-out-broken-at-2 c = search needs
 
--- src/adapt.rt:86:45
 mul-broken-at-3 : tie.Need-mul-broken-at-3 Inv-loop μ-loop
 mul-broken-at-3 c = search needs
 
--- src/adapt.rt:86:45
 element-copy-out-broken-at-3 : tie.Need-element-copy-out-broken-at-3 Inv-loop μ-loop
 element-copy-out-broken-at-3 c = search needs
 
--- src/adapt.rt:86:21
 broken-at-requires : tie.Need-broken-at-requires Inv-loop μ-loop
 broken-at-requires c κs = search needs
 
--- src/adapt.rt:87:9
 add-i : tie.Need-add-i Inv-loop μ-loop
 add-i c = search needs
 
--- src/adapt.rt:84:5
 loop-less : tie.Need-loop-less Inv-loop μ-loop
 loop-less c = search needs
 
--- src/adapt.rt:84:5
 loop-again : tie.Need-loop-again Inv-loop μ-loop
 loop-again c = (omega arith, any-more _ _ _ _ (c .before .before .before .before .before .loop .inv .1) (c .broken-at .ensures))
 
--- src/adapt.rt:78:1
 returns : tie.Need-returns Inv-loop μ-loop
 unfolding brokenIn
 returns c =

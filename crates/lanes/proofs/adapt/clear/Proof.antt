@@ -6,15 +6,11 @@ use native.Mathlib.Omega.{arith}
 use borrow.Author.Needs.{needs}
 use Rattle.lanes.proofs.adapt.clear.Statement.{statement}
 use Rattle.lanes.proofs.adapt.clear.Tie as tie
-use Rattle.lanes.proofs.adapt.clear.Reads as reads
-use Rattle.lanes.proofs.adapt.clear.Lts as lts
 
--- src/adapt.rt:87:1
 returns : tie.Need-returns
 unfolding clearOf
 returns c = rw (c .if1 .taken)
 
--- src/adapt.rt:87:1
 returns-2 : tie.Need-returns-2
 unfolding clearOf
 returns-2 c = rw (c .if1 .left)

@@ -7,9 +7,6 @@ use native.Mathlib.Omega.{arith}
 use borrow.Author.Needs.{needs}
 use Rattle.lanes.proofs.adapt.cleared.Statement.{statement}
 use Rattle.lanes.proofs.adapt.cleared.Tie as tie
-use Rattle.lanes.proofs.adapt.cleared.Reads as reads
-use Rattle.lanes.proofs.adapt.cleared.Lts as lts
-use Rattle.lanes.proofs.adapt.clear.Reads as clear-reads
 
 abbrev Inv-loop : tie.InvT-loop
 Inv-loop w₀ limit from all i₀ w i = (i ≤ 72) × ((length w₀ ≡ 144) × Mapped (clearIn w₀ limit all from) from i w₀ w)
@@ -17,58 +14,45 @@ Inv-loop w₀ limit from all i₀ w i = (i ≤ 72) × ((length w₀ ≡ 144) × 
 abbrev μ-loop : tie.MeasureT-loop
 μ-loop w₀ limit from all i₀ w i = 72 - i
 
--- src/adapt.rt:104:5
 loop-holds : tie.Need-loop-holds Inv-loop μ-loop
 loop-holds c = (search needs, (search needs, mapped-none _ _ _))
 
--- src/adapt.rt:105:17
 add-k : tie.Need-add-k Inv-loop μ-loop
 add-k c = search needs
 
--- src/adapt.rt:106:22
 mul-clear : tie.Need-mul-clear Inv-loop μ-loop
 mul-clear c = search needs
 
--- src/adapt.rt:106:22
 element-copy-out-clear : tie.Need-element-copy-out-clear Inv-loop μ-loop
 element-copy-out-clear c = search needs
 
--- src/adapt.rt:106:28
 mul-clear-2 : tie.Need-mul-clear-2 Inv-loop μ-loop
 mul-clear-2 c = search needs
 
--- src/adapt.rt:106:28
 element-copy-out-clear-2 : tie.Need-element-copy-out-clear-2 Inv-loop μ-loop
 element-copy-out-clear-2 c = search needs
 
--- src/adapt.rt:106:16
 clear-requires : tie.Need-clear-requires Inv-loop μ-loop
 clear-requires c κs = search needs
 
--- src/adapt.rt:106:9
 mul-w : tie.Need-mul-w Inv-loop μ-loop
 mul-w c = search needs
 
--- src/adapt.rt:106:9
 element-write-w : tie.Need-element-write-w Inv-loop μ-loop
 element-write-w c = search needs
 
--- src/adapt.rt:107:9
 add-i : tie.Need-add-i Inv-loop μ-loop
 add-i c = search needs
 
--- src/adapt.rt:104:5
 loop-less : tie.Need-loop-less Inv-loop μ-loop
 loop-less c = search needs
 
--- src/adapt.rt:104:5
 loop-again : tie.Need-loop-again Inv-loop μ-loop
 loop-again c =
     let l = c .before .before .before .before .loop in
     let v = l .inv in
     (omega arith, (v .1 .0, mapped-more _ _ _ _ (c .clear .ensures ∙ rw (v .1 .1 .high (c .before .before .before .before .before .args .from + l .i) (omega arith))) (omega (arith, v .1 .1 .long)) (v .1 .1)))
 
--- src/adapt.rt:99:1
 returns : tie.Need-returns Inv-loop μ-loop
 returns c =
     let l = c .before in

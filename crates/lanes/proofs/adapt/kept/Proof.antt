@@ -6,15 +6,11 @@ use native.Mathlib.Omega.{arith}
 use borrow.Author.Needs.{needs}
 use Rattle.lanes.proofs.adapt.kept.Statement.{statement}
 use Rattle.lanes.proofs.adapt.kept.Tie as tie
-use Rattle.lanes.proofs.adapt.kept.Reads as reads
-use Rattle.lanes.proofs.adapt.kept.Lts as lts
 
--- src/adapt.rt:9:1
 returns : tie.Need-returns
 unfolding keptOf
 returns c = rw (c .if1 .taken)
 
--- src/adapt.rt:9:1
 returns-2 : tie.Need-returns-2
 unfolding keptOf
 returns-2 c = rw (c .if1 .left)

@@ -6,11 +6,6 @@ use native.Mathlib.Omega.{arith}
 use borrow.Author.Needs.{needs}
 use Rattle.lanes.proofs.adapt.lanes_step.Statement.{statement}
 use Rattle.lanes.proofs.adapt.lanes_step.Tie as tie
-use Rattle.lanes.proofs.adapt.lanes_step.Reads as reads
-use Rattle.lanes.proofs.adapt.lanes_step.Lts as lts
-use Rattle.lanes.proofs.adapt.apart.Reads as apart-reads
-use Rattle.lanes.proofs.adapt.step_im.Reads as step-im-reads
-use Rattle.lanes.proofs.adapt.step_re.Reads as step-re-reads
 
 abbrev Inv-loop : tie.InvT-loop
 Inv-loop wr₀ wi₀ limit xr xi at from lanes gr gi bad₀ i₀ wr wi bad i = Stepping wr₀ wi₀ limit xr xi at from gr gi lanes i wr wi bad
@@ -18,111 +13,84 @@ Inv-loop wr₀ wi₀ limit xr xi at from lanes gr gi bad₀ i₀ wr wi bad i = S
 abbrev μ-loop : tie.MeasureT-loop
 μ-loop wr₀ wi₀ limit xr xi at from lanes gr gi bad₀ i₀ wr wi bad i = lanes - i
 
--- src/adapt.rt:56:5
 loop-holds : tie.Need-loop-holds Inv-loop μ-loop
 loop-holds c = stepping-none _ _ _ _ _ _ _ _ _ _ (search needs) (search needs) (search needs)
 
--- src/adapt.rt:57:20
 add-a : tie.Need-add-a Inv-loop μ-loop
 add-a c = search needs
 
--- src/adapt.rt:57:17
 mul-a : tie.Need-mul-a Inv-loop μ-loop
 mul-a c = search needs
 
--- src/adapt.rt:57:17
 element-copy-out-a : tie.Need-element-copy-out-a Inv-loop μ-loop
 element-copy-out-a c = search needs
 
--- src/adapt.rt:58:20
 add-b : tie.Need-add-b Inv-loop μ-loop
 add-b c = search needs
 
--- src/adapt.rt:58:17
 mul-b : tie.Need-mul-b Inv-loop μ-loop
 mul-b c = search needs
 
--- src/adapt.rt:58:17
 element-copy-out-b : tie.Need-element-copy-out-b Inv-loop μ-loop
 element-copy-out-b c = search needs
 
--- src/adapt.rt:59:17
 add-k : tie.Need-add-k Inv-loop μ-loop
 add-k c = search needs
 
--- src/adapt.rt:60:25
 mul-step-re : tie.Need-mul-step-re Inv-loop μ-loop
 mul-step-re c = search needs
 
--- src/adapt.rt:60:25
 element-copy-out-step-re : tie.Need-element-copy-out-step-re Inv-loop μ-loop
 element-copy-out-step-re c = search needs
 
--- src/adapt.rt:60:32
 mul-step-re-2 : tie.Need-mul-step-re-2 Inv-loop μ-loop
 mul-step-re-2 c = search needs
 
--- src/adapt.rt:60:32
 element-copy-out-step-re-2 : tie.Need-element-copy-out-step-re-2 Inv-loop μ-loop
 element-copy-out-step-re-2 c = search needs
 
--- src/adapt.rt:60:13
 step-re-requires : tie.Need-step-re-requires Inv-loop μ-loop
 step-re-requires c κs = search needs
 
--- src/adapt.rt:61:25
 mul-step-im : tie.Need-mul-step-im Inv-loop μ-loop
 mul-step-im c = search needs
 
--- src/adapt.rt:61:25
 element-copy-out-step-im : tie.Need-element-copy-out-step-im Inv-loop μ-loop
 element-copy-out-step-im c = search needs
 
--- src/adapt.rt:61:32
 mul-step-im-2 : tie.Need-mul-step-im-2 Inv-loop μ-loop
 mul-step-im-2 c = search needs
 
--- src/adapt.rt:61:32
 element-copy-out-step-im-2 : tie.Need-element-copy-out-step-im-2 Inv-loop μ-loop
 element-copy-out-step-im-2 c = search needs
 
--- src/adapt.rt:61:13
 step-im-requires : tie.Need-step-im-requires Inv-loop μ-loop
 step-im-requires c κs = search needs
 
--- src/adapt.rt:62:9
 mul-wr : tie.Need-mul-wr Inv-loop μ-loop
 mul-wr c = search needs
 
--- src/adapt.rt:62:9
 element-write-wr : tie.Need-element-write-wr Inv-loop μ-loop
 element-write-wr c = search needs
 
--- src/adapt.rt:63:9
 mul-wi : tie.Need-mul-wi Inv-loop μ-loop
 mul-wi c = search needs
 
--- src/adapt.rt:63:9
 element-write-wi : tie.Need-element-write-wi Inv-loop μ-loop
 element-write-wi c = search needs
 
--- src/adapt.rt:64:21
 apart-requires : tie.Need-apart-requires Inv-loop μ-loop
 apart-requires c κs = search needs
 
--- src/adapt.rt:65:9
 add-i : tie.Need-add-i Inv-loop μ-loop
 add-i c = search needs
 
--- src/adapt.rt:56:5
 loop-less : tie.Need-loop-less Inv-loop μ-loop
 loop-less c = search needs
 
--- src/adapt.rt:56:5
 loop-again : tie.Need-loop-again Inv-loop μ-loop
 loop-again c = search stepping-more
 
--- src/adapt.rt:36:1
 returns : tie.Need-returns Inv-loop μ-loop
 returns c =
     let s = c .before .loop .inv in

@@ -6,23 +6,17 @@ use native.Mathlib.Omega.{arith}
 use borrow.Author.Needs.{needs}
 use Rattle.lanes.proofs.adapt.start.Statement.{statement}
 use Rattle.lanes.proofs.adapt.start.Tie as tie
-use Rattle.lanes.proofs.adapt.start.Reads as reads
-use Rattle.lanes.proofs.adapt.start.Lts as lts
 
--- src/adapt.rt:113:9
 mul-w : tie.Need-mul-w
 mul-w c = search needs
 
--- src/adapt.rt:113:9
 element-write-w : tie.Need-element-write-w
 element-write-w c = search needs
 
--- src/adapt.rt:108:1
 returns : tie.Need-returns
 unfolding startIn
 returns c = rw (c .if1 .taken)
 
--- src/adapt.rt:108:1
 returns-2 : tie.Need-returns-2
 unfolding startIn
 returns-2 c = rw (c .if1 .left)

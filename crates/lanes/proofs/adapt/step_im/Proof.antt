@@ -6,15 +6,10 @@ use native.Mathlib.Omega.{arith}
 use borrow.Author.Needs.{needs}
 use Rattle.lanes.proofs.adapt.step_im.Statement.{statement}
 use Rattle.lanes.proofs.adapt.step_im.Tie as tie
-use Rattle.lanes.proofs.adapt.step_im.Reads as reads
-use Rattle.lanes.proofs.adapt.step_im.Lts as lts
-use Rattle.lanes.proofs.adapt.kept.Reads as kept-reads
 
--- src/adapt.rt:31:5
 kept-requires : tie.Need-kept-requires
 kept-requires c κs = search needs
 
--- src/adapt.rt:28:1
 returns : tie.Need-returns
 unfolding laneIm
 returns c = search needs

@@ -6,15 +6,10 @@ use native.Mathlib.Omega.{arith}
 use borrow.Author.Needs.{needs}
 use Rattle.lanes.proofs.adapt.step_re.Statement.{statement}
 use Rattle.lanes.proofs.adapt.step_re.Tie as tie
-use Rattle.lanes.proofs.adapt.step_re.Reads as reads
-use Rattle.lanes.proofs.adapt.step_re.Lts as lts
-use Rattle.lanes.proofs.adapt.kept.Reads as kept-reads
 
--- src/adapt.rt:25:5
 kept-requires : tie.Need-kept-requires
 kept-requires c κs = search needs
 
--- src/adapt.rt:22:1
 returns : tie.Need-returns
 unfolding laneRe
 returns c = search needs

@@ -6,24 +6,16 @@ use native.Mathlib.Omega.{arith}
 use borrow.Author.Needs.{needs}
 use Rattle.lanes.proofs.filter.sum_re.Statement.{statement}
 use Rattle.lanes.proofs.filter.sum_re.Tie as tie
-use Rattle.lanes.proofs.filter.sum_re.Reads as reads
-use Rattle.lanes.proofs.filter.sum_re.Lts as lts
-use Rattle.lanes.proofs.filter.blocks_re.Reads as blocks-re-reads
-use Rattle.lanes.proofs.filter.tree8.Reads as tree8-reads
 
--- src/filter.rt:91:5
 blocks-re-requires : tie.Need-blocks-re-requires
 blocks-re-requires c κs = search needs
 
--- src/filter.rt:92:5
 blocks-re-requires-2 : tie.Need-blocks-re-requires-2
 blocks-re-requires-2 c κs = search needs
 
--- src/filter.rt:93:5
 tree8-requires : tie.Need-tree8-requires
 tree8-requires c κs = search needs
 
--- src/filter.rt:72:1
 returns : tie.Need-returns
 returns c = c .tree8 .ensures ∙ onto-tree _ _ _ _ (c .before .before .before .before .blocks-re .ensures) (c .before .before .blocks-re2 .ensures)
 

@@ -8,8 +8,6 @@ use native.Mathlib.Omega.{arith}
 use borrow.Author.Needs.{needs}
 use Rattle.lanes.proofs.load.joined_long.Statement.{statement}
 use Rattle.lanes.proofs.load.joined_long.Tie as tie
-use Rattle.lanes.proofs.load.joined_long.Reads as reads
-use Rattle.lanes.proofs.load.joined_long.Lts as lts
 
 abbrev Inv-loop : tie.InvT-loop
 Inv-loop x₀ re im at from count i₀ x i = (i ≤ count) × ((length x ≡ length x₀) × Joined re im at from i x₀ x)
@@ -17,89 +15,68 @@ Inv-loop x₀ re im at from count i₀ x i = (i ≤ count) × ((length x ≡ len
 abbrev μ-loop : tie.MeasureT-loop
 μ-loop x₀ re im at from count i₀ x i = count - i
 
--- src/load.rt:39:5
 loop-holds : tie.Need-loop-holds Inv-loop μ-loop
 loop-holds c = (search needs, (refl, joined-none _ _ _ _ _))
 
--- src/load.rt:40:32
 add-x : tie.Need-add-x Inv-loop μ-loop
 add-x c = search needs
 
--- src/load.rt:40:29
 mul-x : tie.Need-mul-x Inv-loop μ-loop
 mul-x c = search needs
 
--- src/load.rt:40:29
 element-copy-out-x : tie.Need-element-copy-out-x Inv-loop μ-loop
 element-copy-out-x c = search needs
 
--- src/load.rt:40:16
 add-x-2 : tie.Need-add-x-2 Inv-loop μ-loop
 add-x-2 c = search needs
 
--- src/load.rt:40:11
 mul-x-2 : tie.Need-mul-x-2 Inv-loop μ-loop
 mul-x-2 c = search needs
 
--- src/load.rt:40:9
 mul-x-3 : tie.Need-mul-x-3 Inv-loop μ-loop
 mul-x-3 c = search needs
 
--- src/load.rt:40:9
 slice-write-x : tie.Need-slice-write-x Inv-loop μ-loop
 slice-write-x c = search needs
 
--- src/load.rt:41:36
 add-x-3 : tie.Need-add-x-3 Inv-loop μ-loop
 add-x-3 c = search needs
 
--- src/load.rt:41:33
 mul-x-4 : tie.Need-mul-x-4 Inv-loop μ-loop
 mul-x-4 c = search needs
 
--- src/load.rt:41:33
 element-copy-out-x-2 : tie.Need-element-copy-out-x-2 Inv-loop μ-loop
 element-copy-out-x-2 c = search needs
 
--- src/load.rt:41:16
 add-x-4 : tie.Need-add-x-4 Inv-loop μ-loop
 add-x-4 c = search needs
 
--- src/load.rt:41:11
 mul-x-5 : tie.Need-mul-x-5 Inv-loop μ-loop
 mul-x-5 c = search needs
 
--- src/load.rt:41:11
 add-x-5 : tie.Need-add-x-5 Inv-loop μ-loop
 add-x-5 c = search needs
 
--- src/load.rt:41:9
 mul-x-6 : tie.Need-mul-x-6 Inv-loop μ-loop
 mul-x-6 c = search needs
 
--- src/load.rt:41:9
 slice-write-x-2 : tie.Need-slice-write-x-2 Inv-loop μ-loop
 slice-write-x-2 c = simp length-set (omega arith)
 
--- src/load.rt:42:9
 add-i : tie.Need-add-i Inv-loop μ-loop
 add-i c = search needs
 
--- src/load.rt:39:5
 loop-less : tie.Need-loop-less Inv-loop μ-loop
 loop-less c = search needs
 
--- src/load.rt:39:5
 loop-again : tie.Need-loop-again Inv-loop μ-loop
 loop-again c =
     let v = c .before .before .before .loop .inv in
     (omega arith, (simp length-set (v .1 .0), joined-more _ _ _ _ _ _ _ (v .1 .1) (omega arith)))
 
--- src/load.rt:34:1
 same-length : tie.Need-same-length Inv-loop μ-loop
 same-length c = search needs
 
--- src/load.rt:34:1
 returns : tie.Need-returns Inv-loop μ-loop
 returns c =
     let v = c .before .loop .inv in

@@ -6,22 +6,16 @@ use native.Mathlib.Omega.{arith}
 use borrow.Author.Needs.{needs}
 use Rattle.lanes.proofs.load.limit_of.Statement.{statement}
 use Rattle.lanes.proofs.load.limit_of.Tie as tie
-use Rattle.lanes.proofs.load.limit_of.Reads as reads
-use Rattle.lanes.proofs.load.limit_of.Lts as lts
 
--- src/load.rt:116:9
 returns : tie.Need-returns
 returns c = search limit-forth
 
--- src/load.rt:119:9
 returns-2 : tie.Need-returns-2
 returns-2 c = search limit-early
 
--- src/load.rt:112:1
 returns-3 : tie.Need-returns-3
 returns-3 c = search limit-in
 
--- src/load.rt:112:1
 returns-4 : tie.Need-returns-4
 returns-4 c = search limit-late
 

@@ -9,9 +9,6 @@ use native.Mathlib.Omega.{arith}
 use borrow.Author.Needs.{needs}
 use Rattle.lanes.proofs.load.limits.Statement.{statement}
 use Rattle.lanes.proofs.load.limits.Tie as tie
-use Rattle.lanes.proofs.load.limits.Reads as reads
-use Rattle.lanes.proofs.load.limits.Lts as lts
-use Rattle.lanes.proofs.load.limit_of.Reads as limit-of-reads
 
 abbrev Inv-loop : tie.InvT-loop
 Inv-loop n front m limit₀ i₀ limit i = (i ≤ 144) × ((length limit ≡ 144) × Between (limitAt n (72 + front) (72 + front + m)) 0 i limit₀ limit)
@@ -19,49 +16,38 @@ Inv-loop n front m limit₀ i₀ limit i = (i ≤ 144) × ((length limit ≡ 144
 abbrev μ-loop : tie.MeasureT-loop
 μ-loop n front m limit₀ i₀ limit i = 144 - i
 
--- src/load.rt:131:5
 loop-holds : tie.Need-loop-holds Inv-loop μ-loop
 loop-holds c = (search needs, (search needs, between-none _ _ _))
 
--- src/load.rt:132:35
 add-limit-of : tie.Need-add-limit-of Inv-loop μ-loop
 add-limit-of c = search needs
 
--- src/load.rt:132:47
 add-limit-of-2 : tie.Need-add-limit-of-2 Inv-loop μ-loop
 add-limit-of-2 c = search needs
 
--- src/load.rt:132:47
 add-limit-of-3 : tie.Need-add-limit-of-3 Inv-loop μ-loop
 add-limit-of-3 c = search needs
 
--- src/load.rt:132:20
 limit-of-requires : tie.Need-limit-of-requires Inv-loop μ-loop
 limit-of-requires c κs = search needs
 
--- src/load.rt:132:9
 mul-limit : tie.Need-mul-limit Inv-loop μ-loop
 mul-limit c = search needs
 
--- src/load.rt:132:9
 array-write-limit : tie.Need-array-write-limit Inv-loop μ-loop
 array-write-limit c = search needs
 
--- src/load.rt:133:9
 add-i : tie.Need-add-i Inv-loop μ-loop
 add-i c = search needs
 
--- src/load.rt:131:5
 loop-less : tie.Need-loop-less Inv-loop μ-loop
 loop-less c = search needs
 
--- src/load.rt:131:5
 loop-again : tie.Need-loop-again Inv-loop μ-loop
 loop-again c =
     let v = c .before .before .loop .inv in
     (omega arith, (simp length-set (v .1 .0), between-more _ 0 _ _ (c .limit-of .ensures) (omega arith) (omega arith) (v .1 .1)))
 
--- src/load.rt:125:1
 returns : tie.Need-returns Inv-loop μ-loop
 returns c =
     let v = c .before .loop .inv in

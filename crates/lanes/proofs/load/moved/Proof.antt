@@ -8,8 +8,6 @@ use native.Mathlib.Omega.{arith}
 use borrow.Author.Needs.{needs}
 use Rattle.lanes.proofs.load.moved.Statement.{statement}
 use Rattle.lanes.proofs.load.moved.Tie as tie
-use Rattle.lanes.proofs.load.moved.Reads as reads
-use Rattle.lanes.proofs.load.moved.Lts as lts
 
 abbrev Inv-loop : tie.InvT-loop
 Inv-loop x₀ from to count i₀ x i = (i ≤ count) × (((length x₀ ≡ 288) × ((from ≤ to) × (to + count ≤ 288))) × Between (λ k. getD x₀ (from + (k - to)) nan) (to + i) (to + count) x₀ x)
@@ -17,49 +15,38 @@ Inv-loop x₀ from to count i₀ x i = (i ≤ count) × (((length x₀ ≡ 288) 
 abbrev μ-loop : tie.MeasureT-loop
 μ-loop x₀ from to count i₀ x i = i
 
--- src/load.rt:102:5
 loop-holds : tie.Need-loop-holds Inv-loop μ-loop
 loop-holds c = (search needs, (search needs, between-none _ _ _))
 
--- src/load.rt:103:9
 sub-i : tie.Need-sub-i Inv-loop μ-loop
 sub-i c = search needs
 
--- src/load.rt:104:23
 add-x : tie.Need-add-x Inv-loop μ-loop
 add-x c = search needs
 
--- src/load.rt:104:21
 mul-x : tie.Need-mul-x Inv-loop μ-loop
 mul-x c = search needs
 
--- src/load.rt:104:21
 element-copy-out-x : tie.Need-element-copy-out-x Inv-loop μ-loop
 element-copy-out-x c = search needs
 
--- src/load.rt:104:11
 add-x-2 : tie.Need-add-x-2 Inv-loop μ-loop
 add-x-2 c = search needs
 
--- src/load.rt:104:9
 mul-x-2 : tie.Need-mul-x-2 Inv-loop μ-loop
 mul-x-2 c = search needs
 
--- src/load.rt:104:9
 element-write-x : tie.Need-element-write-x Inv-loop μ-loop
 element-write-x c = search needs
 
--- src/load.rt:102:5
 loop-less : tie.Need-loop-less Inv-loop μ-loop
 loop-less c = search needs
 
--- src/load.rt:102:5
 loop-again : tie.Need-loop-again Inv-loop μ-loop
 loop-again c =
     let v = c .before .before .loop .inv in
     (omega arith, (v .1 .0, between-move _ _ _ _ _ (v .1 .0 .1 .0) (omega arith) (v .0) (omega arith) (v .1 .1)))
 
--- src/load.rt:96:1
 returns : tie.Need-returns Inv-loop μ-loop
 returns c =
     let v = c .before .loop .inv in

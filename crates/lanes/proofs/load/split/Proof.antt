@@ -9,8 +9,6 @@ use native.Mathlib.Omega.{arith}
 use borrow.Author.Needs.{needs}
 use Rattle.lanes.proofs.load.split.Statement.{statement}
 use Rattle.lanes.proofs.load.split.Tie as tie
-use Rattle.lanes.proofs.load.split.Reads as reads
-use Rattle.lanes.proofs.load.split.Lts as lts
 
 abbrev Inv-loop : tie.InvT-loop
 Inv-loop re₀ im₀ at x from count i₀ re im i = (i ≤ count) × (((length re₀ ≡ 144) × (length im₀ ≡ 144)) × (Between (λ i. reAt x (from + (i - at))) at (at + i) re₀ re × Between (λ i. imAt x (from + (i - at))) at (at + i) im₀ im))
@@ -18,81 +16,62 @@ Inv-loop re₀ im₀ at x from count i₀ re im i = (i ≤ count) × (((length r
 abbrev μ-loop : tie.MeasureT-loop
 μ-loop re₀ im₀ at x from count i₀ re im i = count - i
 
--- src/load.rt:26:5
 loop-holds : tie.Need-loop-holds Inv-loop μ-loop
 loop-holds c =
     let e : c .args .at + 0 ≡ c .args .at = omega arith in
     (search needs, (search needs, (rw e (between-none _ _ _), rw e (between-none _ _ _))))
 
--- src/load.rt:27:29
 add-re : tie.Need-add-re Inv-loop μ-loop
 add-re c = search needs
 
--- src/load.rt:27:24
 mul-re : tie.Need-mul-re Inv-loop μ-loop
 mul-re c = search needs
 
--- src/load.rt:27:22
 mul-re-2 : tie.Need-mul-re-2 Inv-loop μ-loop
 mul-re-2 c = search needs
 
--- src/load.rt:27:22
 shared-slice-read-re : tie.Need-shared-slice-read-re Inv-loop μ-loop
 shared-slice-read-re c = search needs
 
--- src/load.rt:27:12
 add-re-2 : tie.Need-add-re-2 Inv-loop μ-loop
 add-re-2 c = search needs
 
--- src/load.rt:27:9
 mul-re-3 : tie.Need-mul-re-3 Inv-loop μ-loop
 mul-re-3 c = search needs
 
--- src/load.rt:27:9
 element-write-re : tie.Need-element-write-re Inv-loop μ-loop
 element-write-re c = search needs
 
--- src/load.rt:28:29
 add-im : tie.Need-add-im Inv-loop μ-loop
 add-im c = search needs
 
--- src/load.rt:28:24
 mul-im : tie.Need-mul-im Inv-loop μ-loop
 mul-im c = search needs
 
--- src/load.rt:28:24
 add-im-2 : tie.Need-add-im-2 Inv-loop μ-loop
 add-im-2 c = search needs
 
--- src/load.rt:28:22
 mul-im-2 : tie.Need-mul-im-2 Inv-loop μ-loop
 mul-im-2 c = search needs
 
--- src/load.rt:28:22
 shared-slice-read-im : tie.Need-shared-slice-read-im Inv-loop μ-loop
 shared-slice-read-im c = search needs
 
--- src/load.rt:28:12
 add-im-3 : tie.Need-add-im-3 Inv-loop μ-loop
 add-im-3 c = search needs
 
--- src/load.rt:28:9
 mul-im-3 : tie.Need-mul-im-3 Inv-loop μ-loop
 mul-im-3 c = search needs
 
--- src/load.rt:28:9
 element-write-im : tie.Need-element-write-im Inv-loop μ-loop
 element-write-im c = search needs
 
--- src/load.rt:29:9
 add-i : tie.Need-add-i Inv-loop μ-loop
 add-i c = search needs
 
--- src/load.rt:26:5
 loop-less : tie.Need-loop-less Inv-loop μ-loop
 loop-less c = search needs
 
--- src/load.rt:26:5
 loop-again : tie.Need-loop-again Inv-loop μ-loop
 loop-again c =
     let v = c .before .before .before .loop .inv in
@@ -112,7 +91,6 @@ loop-again c =
       ),
     )
 
--- src/load.rt:12:1
 returns : tie.Need-returns Inv-loop μ-loop
 returns c =
     let v = c .before .loop .inv in

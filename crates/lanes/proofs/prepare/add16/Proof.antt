@@ -8,8 +8,6 @@ use native.Mathlib.Omega.{arith}
 use borrow.Author.Needs.{needs}
 use Rattle.lanes.proofs.prepare.add16.Statement.{statement}
 use Rattle.lanes.proofs.prepare.add16.Tie as tie
-use Rattle.lanes.proofs.prepare.add16.Reads as reads
-use Rattle.lanes.proofs.prepare.add16.Lts as lts
 
 abbrev Inv-loop : tie.InvT-loop
 Inv-loop acc₀ q from k₀ acc k = (k ≤ 16) × ((length acc₀ ≡ 16) × Added (λ i. getD q i nan) from k acc₀ acc)
@@ -17,53 +15,41 @@ Inv-loop acc₀ q from k₀ acc k = (k ≤ 16) × ((length acc₀ ≡ 16) × Add
 abbrev μ-loop : tie.MeasureT-loop
 μ-loop acc₀ q from k₀ acc k = 16 - k
 
--- src/prepare.rt:55:5
 loop-holds : tie.Need-loop-holds Inv-loop μ-loop
 loop-holds c = (search needs, (search needs, added-none _ _ _))
 
--- src/prepare.rt:56:18
 mul-acc : tie.Need-mul-acc Inv-loop μ-loop
 mul-acc c = search needs
 
--- src/prepare.rt:56:18
 element-copy-out-acc : tie.Need-element-copy-out-acc Inv-loop μ-loop
 element-copy-out-acc c = search needs
 
--- src/prepare.rt:56:29
 add-acc : tie.Need-add-acc Inv-loop μ-loop
 add-acc c = search needs
 
--- src/prepare.rt:56:27
 mul-acc-2 : tie.Need-mul-acc-2 Inv-loop μ-loop
 mul-acc-2 c = search needs
 
--- src/prepare.rt:56:27
 element-copy-out-acc-2 : tie.Need-element-copy-out-acc-2 Inv-loop μ-loop
 element-copy-out-acc-2 c = search needs
 
--- src/prepare.rt:56:9
 mul-acc-3 : tie.Need-mul-acc-3 Inv-loop μ-loop
 mul-acc-3 c = search needs
 
--- src/prepare.rt:56:9
 element-write-acc : tie.Need-element-write-acc Inv-loop μ-loop
 element-write-acc c = search needs
 
--- src/prepare.rt:57:9
 add-k : tie.Need-add-k Inv-loop μ-loop
 add-k c = search needs
 
--- src/prepare.rt:55:5
 loop-less : tie.Need-loop-less Inv-loop μ-loop
 loop-less c = search needs
 
--- src/prepare.rt:55:5
 loop-again : tie.Need-loop-again Inv-loop μ-loop
 loop-again c =
     let v = c .before .before .before .loop .inv in
     (omega arith, (v .1 .0, added-more _ _ _ _ refl (omega (arith, v .1 .1 .long)) (v .1 .1)))
 
--- src/prepare.rt:49:1
 returns : tie.Need-returns Inv-loop μ-loop
 returns c =
     let l = c .before in

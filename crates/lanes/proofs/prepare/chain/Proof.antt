@@ -8,8 +8,6 @@ use native.Mathlib.Omega.{arith}
 use borrow.Author.Needs.{needs}
 use Rattle.lanes.proofs.prepare.chain.Statement.{statement}
 use Rattle.lanes.proofs.prepare.chain.Tie as tie
-use Rattle.lanes.proofs.prepare.chain.Reads as reads
-use Rattle.lanes.proofs.prepare.chain.Lts as lts
 
 abbrev Inv-loop : tie.InvT-loop
 Inv-loop q from count forward p₀ i₀ p i = (i ≤ count) × (p ≡ chainFrom forward q from i)
@@ -17,35 +15,27 @@ Inv-loop q from count forward p₀ i₀ p i = (i ≤ count) × (p ≡ chainFrom 
 abbrev μ-loop : tie.MeasureT-loop
 μ-loop q from count forward p₀ i₀ p i = count - i
 
--- src/prepare.rt:120:5
 loop-holds : tie.Need-loop-holds Inv-loop μ-loop
 loop-holds c = (search needs, chain-none _ _ _)
 
--- src/prepare.rt:121:19
 add-p : tie.Need-add-p Inv-loop μ-loop
 add-p c = search needs
 
--- src/prepare.rt:121:17
 mul-p : tie.Need-mul-p Inv-loop μ-loop
 mul-p c = search needs
 
--- src/prepare.rt:121:17
 element-copy-out-p : tie.Need-element-copy-out-p Inv-loop μ-loop
 element-copy-out-p c = search needs
 
--- src/prepare.rt:122:9
 add-i : tie.Need-add-i Inv-loop μ-loop
 add-i c = search needs
 
--- src/prepare.rt:120:5
 loop-less : tie.Need-loop-less Inv-loop μ-loop
 loop-less c = search needs
 
--- src/prepare.rt:120:5
 loop-again : tie.Need-loop-again Inv-loop μ-loop
 loop-again c = (omega arith, search chain-more)
 
--- src/prepare.rt:114:1
 returns : tie.Need-returns Inv-loop μ-loop
 returns c =
     let l = c .before in

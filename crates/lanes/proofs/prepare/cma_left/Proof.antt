@@ -6,42 +6,31 @@ use native.Mathlib.Omega.{arith}
 use borrow.Author.Needs.{needs}
 use Rattle.lanes.proofs.prepare.cma_left.Statement.{statement}
 use Rattle.lanes.proofs.prepare.cma_left.Tie as tie
-use Rattle.lanes.proofs.prepare.cma_left.Reads as reads
-use Rattle.lanes.proofs.prepare.cma_left.Lts as lts
 
--- src/prepare.rt:137:29
 enum-told : tie.Need-enum-told
 enum-told c = search needs
 
--- src/prepare.rt:139:16
 enum-told-2 : tie.Need-enum-told-2
 enum-told-2 c = search needs
 
--- src/prepare.rt:140:17
 returns : tie.Need-returns
 returns c = search (left-never, left-all)
 
--- src/prepare.rt:143:17
 returns-2 : tie.Need-returns-2
 returns-2 c = search (left-decision, left-none)
 
--- src/prepare.rt:145:24
 sub-left : tie.Need-sub-left
 sub-left c = search needs
 
--- src/prepare.rt:146:28
 cast-result : tie.Need-cast-result
 cast-result c = search needs
 
--- src/prepare.rt:131:1
 returns-3 : tie.Need-returns-3
 returns-3 c = search (left-decision, left-none)
 
--- src/prepare.rt:131:1
 returns-4 : tie.Need-returns-4
 returns-4 c = search left-some
 
--- src/prepare.rt:131:1
 returns-5 : tie.Need-returns-5
 returns-5 c = search (left-never, left-all)
 

@@ -9,8 +9,6 @@ use native.Mathlib.Omega.{arith}
 use borrow.Author.Needs.{needs}
 use Rattle.lanes.proofs.prepare.divide.Statement.{statement}
 use Rattle.lanes.proofs.prepare.divide.Tie as tie
-use Rattle.lanes.proofs.prepare.divide.Reads as reads
-use Rattle.lanes.proofs.prepare.divide.Lts as lts
 
 abbrev Inv-loop : tie.InvT-loop
 Inv-loop steps₀ power from to mu j₀ steps j = (from ≤ j) × ((j ≤ to) × ((length steps₀ ≡ 64) × Between (λ i. stepSize mu (getD power i nan)) from j steps₀ steps))
@@ -18,42 +16,33 @@ Inv-loop steps₀ power from to mu j₀ steps j = (from ≤ j) × ((j ≤ to) ×
 abbrev μ-loop : tie.MeasureT-loop
 μ-loop steps₀ power from to mu j₀ steps j = to - j
 
--- src/prepare.rt:107:5
 loop-holds : tie.Need-loop-holds Inv-loop μ-loop
 loop-holds c = (search needs, (search needs, (search needs, between-none _ _ _)))
 
--- src/prepare.rt:108:26
 mul-steps : tie.Need-mul-steps Inv-loop μ-loop
 mul-steps c = search needs
 
--- src/prepare.rt:108:26
 element-copy-out-steps : tie.Need-element-copy-out-steps Inv-loop μ-loop
 element-copy-out-steps c = search needs
 
--- src/prepare.rt:108:9
 mul-steps-2 : tie.Need-mul-steps-2 Inv-loop μ-loop
 mul-steps-2 c = search needs
 
--- src/prepare.rt:108:9
 element-write-steps : tie.Need-element-write-steps Inv-loop μ-loop
 element-write-steps c = search needs
 
--- src/prepare.rt:109:9
 add-j : tie.Need-add-j Inv-loop μ-loop
 add-j c = search needs
 
--- src/prepare.rt:107:5
 loop-less : tie.Need-loop-less Inv-loop μ-loop
 loop-less c = search needs
 
--- src/prepare.rt:107:5
 loop-again : tie.Need-loop-again Inv-loop μ-loop
 unfolding stepSize
 loop-again c =
     let v = c .before .before .loop .inv in
     (omega arith, (omega arith, (v .1 .1 .0, between-more _ _ _ _ refl (v .0) (omega (arith, v .1 .1 .1 .long)) (v .1 .1 .1))))
 
--- src/prepare.rt:101:1
 returns : tie.Need-returns Inv-loop μ-loop
 returns c =
     let l = c .before in

@@ -9,10 +9,6 @@ use native.Mathlib.Omega.{arith}
 use borrow.Author.Needs.{needs}
 use Rattle.lanes.proofs.prepare.enter.Statement.{statement}
 use Rattle.lanes.proofs.prepare.enter.Tie as tie
-use Rattle.lanes.proofs.prepare.enter.Reads as reads
-use Rattle.lanes.proofs.prepare.enter.Lts as lts
-use Rattle.numeric.proofs.is_finite.Reads as is-finite-reads
-use Rattle.lanes.proofs.prepare.held.Reads as held-reads
 
 abbrev Inv-loop : tie.InvT-loop
 Inv-loop xr₀ xi₀ input len k₀ xr xi k = Entering input len xr₀ xi₀ k xr xi
@@ -20,93 +16,71 @@ Inv-loop xr₀ xi₀ input len k₀ xr xi k = Entering input len xr₀ xi₀ k x
 abbrev μ-loop : tie.MeasureT-loop
 μ-loop xr₀ xi₀ input len k₀ xr xi k = len - k
 
--- src/prepare.rt:25:5
 loop-holds : tie.Need-loop-holds Inv-loop μ-loop
 loop-holds c = entering-none _ _ _ _ (search needs) (search needs) (search needs) (omega arith)
 
--- src/prepare.rt:26:23
 mul-a : tie.Need-mul-a Inv-loop μ-loop
 mul-a c = search needs
 
--- src/prepare.rt:26:17
 mul-a-2 : tie.Need-mul-a-2 Inv-loop μ-loop
 mul-a-2 c = search needs
 
--- src/prepare.rt:26:17
 shared-slice-read-a : tie.Need-shared-slice-read-a Inv-loop μ-loop
 shared-slice-read-a c = search needs
 
--- src/prepare.rt:27:23
 mul-b : tie.Need-mul-b Inv-loop μ-loop
 mul-b c = search needs
 
--- src/prepare.rt:27:23
 add-b : tie.Need-add-b Inv-loop μ-loop
 add-b c = search needs
 
--- src/prepare.rt:27:17
 mul-b-2 : tie.Need-mul-b-2 Inv-loop μ-loop
 mul-b-2 c = search needs
 
--- src/prepare.rt:27:17
 shared-slice-read-b : tie.Need-shared-slice-read-b Inv-loop μ-loop
 shared-slice-read-b c = search needs
 
--- src/prepare.rt:28:18
 is-finite-requires : tie.Need-is-finite-requires Inv-loop μ-loop
 is-finite-requires c κs = search needs
 
--- src/prepare.rt:28:40
 is-finite-requires-2 : tie.Need-is-finite-requires-2 Inv-loop μ-loop
 is-finite-requires-2 c κs = search needs
 
--- src/prepare.rt:29:22
 held-requires : tie.Need-held-requires Inv-loop μ-loop
 held-requires c κs = search needs
 
--- src/prepare.rt:29:12
 sub-xr : tie.Need-sub-xr Inv-loop μ-loop
 sub-xr c = search needs
 
--- src/prepare.rt:29:9
 mul-xr : tie.Need-mul-xr Inv-loop μ-loop
 mul-xr c = search needs
 
--- src/prepare.rt:29:9
 element-write-xr : tie.Need-element-write-xr Inv-loop μ-loop
 element-write-xr c = search needs
 
--- src/prepare.rt:30:22
 held-requires-2 : tie.Need-held-requires-2 Inv-loop μ-loop
 held-requires-2 c κs = search needs
 
--- src/prepare.rt:30:12
 sub-xi : tie.Need-sub-xi Inv-loop μ-loop
 sub-xi c = search needs
 
--- src/prepare.rt:30:9
 mul-xi : tie.Need-mul-xi Inv-loop μ-loop
 mul-xi c = search needs
 
--- src/prepare.rt:30:9
 element-write-xi : tie.Need-element-write-xi Inv-loop μ-loop
 element-write-xi c = search needs
 
--- src/prepare.rt:31:9
 add-k : tie.Need-add-k Inv-loop μ-loop
 add-k c = search needs
 
--- src/prepare.rt:25:5
 loop-less : tie.Need-loop-less Inv-loop μ-loop
 loop-less c = search needs
 
--- src/prepare.rt:25:5
 loop-again : tie.Need-loop-again Inv-loop μ-loop
 loop-again c =
     let s = c .before .before .before .before .before .before .before .loop .inv in
     entering-more _ _ _ _ _ _ _ _ _ _ _ s (search needs) (c .before .before .before .is-finite .ensures) (c .before .before .is-finite2 .ensures) (c .before .held .ensures) (c .held2 .ensures)
 
--- src/prepare.rt:18:1
 returns : tie.Need-returns Inv-loop μ-loop
 returns c = search entering-all
 

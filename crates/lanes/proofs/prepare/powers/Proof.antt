@@ -8,9 +8,6 @@ use native.Mathlib.Omega.{arith}
 use borrow.Author.Needs.{needs}
 use Rattle.lanes.proofs.prepare.powers.Statement.{statement}
 use Rattle.lanes.proofs.prepare.powers.Tie as tie
-use Rattle.lanes.proofs.prepare.powers.Reads as reads
-use Rattle.lanes.proofs.prepare.powers.Lts as lts
-use Rattle.lanes.proofs.prepare.tile.Reads as tile-reads
 
 abbrev Inv-loop : tie.InvT-loop
 Inv-loop power₀ q from n j₀ power j = (from ≤ j) × ((j ≤ 64) × ((j % 16 ≡ 0) × ((length power ≡ 64) × Between (λ i. chainOf q i n) from j power₀ power)))
@@ -18,29 +15,23 @@ Inv-loop power₀ q from n j₀ power j = (from ≤ j) × ((j ≤ 64) × ((j % 1
 abbrev μ-loop : tie.MeasureT-loop
 μ-loop power₀ q from n j₀ power j = 64 - j
 
--- src/prepare.rt:94:5
 loop-holds : tie.Need-loop-holds Inv-loop μ-loop
 loop-holds c = (search needs, (search needs, (search needs, (search needs, between-none _ _ _))))
 
--- src/prepare.rt:95:9
 tile-requires : tie.Need-tile-requires Inv-loop μ-loop
 tile-requires c κs = search needs
 
--- src/prepare.rt:96:9
 add-j : tie.Need-add-j Inv-loop μ-loop
 add-j c = search needs
 
--- src/prepare.rt:94:5
 loop-less : tie.Need-loop-less Inv-loop μ-loop
 loop-less c = search needs
 
--- src/prepare.rt:94:5
 loop-again : tie.Need-loop-again Inv-loop μ-loop
 loop-again c =
     let v = c .before .before .before .loop .inv in
     (omega arith, (omega arith, (omega arith, (c .tile .ensures .long ∙ v .1 .1 .1 .0, between-join _ _ _ _ (v .0) (omega arith) (v .1 .1 .1 .1) (c .tile .ensures)))))
 
--- src/prepare.rt:88:1
 returns : tie.Need-returns Inv-loop μ-loop
 returns c =
     let e : c .before .loop .j ≡ 64 = omega arith in

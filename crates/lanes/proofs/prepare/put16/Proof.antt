@@ -8,8 +8,6 @@ use native.Mathlib.Omega.{arith}
 use borrow.Author.Needs.{needs}
 use Rattle.lanes.proofs.prepare.put16.Statement.{statement}
 use Rattle.lanes.proofs.prepare.put16.Tie as tie
-use Rattle.lanes.proofs.prepare.put16.Reads as reads
-use Rattle.lanes.proofs.prepare.put16.Lts as lts
 
 abbrev Inv-loop : tie.InvT-loop
 Inv-loop power₀ acc from k₀ power k = (k ≤ 16) × ((length power₀ ≡ 64) × Between (λ i. getD acc (i - from) nan) from (from + k) power₀ power)
@@ -17,42 +15,33 @@ Inv-loop power₀ acc from k₀ power k = (k ≤ 16) × ((length power₀ ≡ 64
 abbrev μ-loop : tie.MeasureT-loop
 μ-loop power₀ acc from k₀ power k = 16 - k
 
--- src/prepare.rt:67:5
 loop-holds : tie.Need-loop-holds Inv-loop μ-loop
 loop-holds c =
     let h : length (c .args .power .now) ≡ 64 = search needs in
     let e : c .args .from + 0 ≡ c .args .from = omega arith in
     (search needs, (h, rw e (between-none _ _ _)))
 
--- src/prepare.rt:68:27
 mul-power : tie.Need-mul-power Inv-loop μ-loop
 mul-power c = search needs
 
--- src/prepare.rt:68:27
 element-copy-out-power : tie.Need-element-copy-out-power Inv-loop μ-loop
 element-copy-out-power c = search needs
 
--- src/prepare.rt:68:15
 add-power : tie.Need-add-power Inv-loop μ-loop
 add-power c = search needs
 
--- src/prepare.rt:68:9
 mul-power-2 : tie.Need-mul-power-2 Inv-loop μ-loop
 mul-power-2 c = search needs
 
--- src/prepare.rt:68:9
 element-write-power : tie.Need-element-write-power Inv-loop μ-loop
 element-write-power c = search needs
 
--- src/prepare.rt:69:9
 add-k : tie.Need-add-k Inv-loop μ-loop
 add-k c = search needs
 
--- src/prepare.rt:67:5
 loop-less : tie.Need-loop-less Inv-loop μ-loop
 loop-less c = search needs
 
--- src/prepare.rt:67:5
 loop-again : tie.Need-loop-again Inv-loop μ-loop
 loop-again c =
     let v = c .before .before .loop .inv in
@@ -62,7 +51,6 @@ loop-again c =
     let d : k ≡ f + k - f = omega arith in
     (omega arith, (v .1 .0, rw e (between-more _ _ _ _ (ap (λ (x : ℕ). getD (c .before .before .before .args .acc .now) x nan) d) (omega arith) (omega (arith, v .1 .1 .long)) (v .1 .1))))
 
--- src/prepare.rt:61:1
 returns : tie.Need-returns Inv-loop μ-loop
 returns c =
     let l = c .before in

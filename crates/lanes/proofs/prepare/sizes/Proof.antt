@@ -6,35 +6,24 @@ use native.Mathlib.Omega.{arith}
 use borrow.Author.Needs.{needs}
 use Rattle.lanes.proofs.prepare.sizes.Statement.{statement}
 use Rattle.lanes.proofs.prepare.sizes.Tie as tie
-use Rattle.lanes.proofs.prepare.sizes.Reads as reads
-use Rattle.lanes.proofs.prepare.sizes.Lts as lts
-use Rattle.lanes.proofs.prepare.cma_left.Reads as cma-left-reads
-use Rattle.lanes.proofs.prepare.divide.Reads as divide-reads
-use Rattle.lanes.proofs.prepare.least.Reads as least-reads
 
--- src/prepare.rt:165:21
 cma-left-requires : tie.Need-cma-left-requires
 cma-left-requires c κs = search needs
 
--- src/prepare.rt:165:16
 sub-edge : tie.Need-sub-edge
 sub-edge c =
     let s = c .before .before .args .s in
     omega (arith, c .cma-left .ensures, left-most (s .mode) (s .params .«cma_symbols») (s .count))
 
--- src/prepare.rt:166:9
 least-requires : tie.Need-least-requires
 least-requires c κs = search needs
 
--- src/prepare.rt:167:5
 divide-requires : tie.Need-divide-requires
 divide-requires c κs = search needs
 
--- src/prepare.rt:168:5
 divide-requires-2 : tie.Need-divide-requires-2
 divide-requires-2 c κs = search needs
 
--- src/prepare.rt:159:1
 returns : tie.Need-returns
 returns c =
     let l = c .before .before .before .before .least .ensures in

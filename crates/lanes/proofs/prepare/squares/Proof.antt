@@ -8,8 +8,6 @@ use native.Mathlib.Omega.{arith}
 use borrow.Author.Needs.{needs}
 use Rattle.lanes.proofs.prepare.squares.Statement.{statement}
 use Rattle.lanes.proofs.prepare.squares.Tie as tie
-use Rattle.lanes.proofs.prepare.squares.Reads as reads
-use Rattle.lanes.proofs.prepare.squares.Lts as lts
 
 abbrev Inv-loop : tie.InvT-loop
 Inv-loop q₀ xr xi from to j₀ q j = (from ≤ j) × ((j ≤ to) × ((length q₀ ≡ 288) × Between (squareAt xr xi) from j q₀ q))
@@ -17,65 +15,50 @@ Inv-loop q₀ xr xi from to j₀ q j = (from ≤ j) × ((j ≤ to) × ((length q
 abbrev μ-loop : tie.MeasureT-loop
 μ-loop q₀ xr xi from to j₀ q j = to - j
 
--- src/prepare.rt:42:5
 loop-holds : tie.Need-loop-holds Inv-loop μ-loop
 loop-holds c = (search needs, (search needs, (search needs, between-none _ _ _)))
 
--- src/prepare.rt:43:16
 mul-q : tie.Need-mul-q Inv-loop μ-loop
 mul-q c = search needs
 
--- src/prepare.rt:43:16
 element-copy-out-q : tie.Need-element-copy-out-q Inv-loop μ-loop
 element-copy-out-q c = search needs
 
--- src/prepare.rt:43:24
 mul-q-2 : tie.Need-mul-q-2 Inv-loop μ-loop
 mul-q-2 c = search needs
 
--- src/prepare.rt:43:24
 element-copy-out-q-2 : tie.Need-element-copy-out-q-2 Inv-loop μ-loop
 element-copy-out-q-2 c = search needs
 
--- src/prepare.rt:43:32
 mul-q-3 : tie.Need-mul-q-3 Inv-loop μ-loop
 mul-q-3 c = search needs
 
--- src/prepare.rt:43:32
 element-copy-out-q-3 : tie.Need-element-copy-out-q-3 Inv-loop μ-loop
 element-copy-out-q-3 c = search needs
 
--- src/prepare.rt:43:40
 mul-q-4 : tie.Need-mul-q-4 Inv-loop μ-loop
 mul-q-4 c = search needs
 
--- src/prepare.rt:43:40
 element-copy-out-q-4 : tie.Need-element-copy-out-q-4 Inv-loop μ-loop
 element-copy-out-q-4 c = search needs
 
--- src/prepare.rt:43:9
 mul-q-5 : tie.Need-mul-q-5 Inv-loop μ-loop
 mul-q-5 c = search needs
 
--- src/prepare.rt:43:9
 element-write-q : tie.Need-element-write-q Inv-loop μ-loop
 element-write-q c = search needs
 
--- src/prepare.rt:44:9
 add-j : tie.Need-add-j Inv-loop μ-loop
 add-j c = search needs
 
--- src/prepare.rt:42:5
 loop-less : tie.Need-loop-less Inv-loop μ-loop
 loop-less c = search needs
 
--- src/prepare.rt:42:5
 loop-again : tie.Need-loop-again Inv-loop μ-loop
 loop-again c =
     let v = c .before .before .before .before .before .loop .inv in
     (omega arith, (omega arith, (v .1 .1 .0, between-more _ _ _ _ refl (v .0) (omega (arith, v .1 .1 .1 .long)) (v .1 .1 .1))))
 
--- src/prepare.rt:36:1
 returns : tie.Need-returns Inv-loop μ-loop
 returns c =
     let l = c .before in

@@ -7,10 +7,6 @@ use native.Mathlib.Omega.{arith}
 use borrow.Author.Needs.{needs}
 use Rattle.lanes.proofs.prepare.tile.Statement.{statement}
 use Rattle.lanes.proofs.prepare.tile.Tie as tie
-use Rattle.lanes.proofs.prepare.tile.Reads as reads
-use Rattle.lanes.proofs.prepare.tile.Lts as lts
-use Rattle.lanes.proofs.prepare.add16.Reads as add16-reads
-use Rattle.lanes.proofs.prepare.put16.Reads as put16-reads
 
 abbrev Inv-loop : tie.InvT-loop
 Inv-loop power q j n acc₀ i₀ acc i = (i ≤ n) × Chained q j i acc
@@ -18,37 +14,29 @@ Inv-loop power q j n acc₀ i₀ acc i = (i ≤ n) × Chained q j i acc
 abbrev μ-loop : tie.MeasureT-loop
 μ-loop power q j n acc₀ i₀ acc i = n - i
 
--- src/prepare.rt:81:5
 loop-holds : tie.Need-loop-holds Inv-loop μ-loop
 loop-holds c = (search needs, chained-none _ _)
 
--- src/prepare.rt:82:28
 add-add16 : tie.Need-add-add16 Inv-loop μ-loop
 add-add16 c = search needs
 
--- src/prepare.rt:82:9
 add16-requires : tie.Need-add16-requires Inv-loop μ-loop
 add16-requires c κs = search needs
 
--- src/prepare.rt:83:9
 add-i : tie.Need-add-i Inv-loop μ-loop
 add-i c = search needs
 
--- src/prepare.rt:81:5
 loop-less : tie.Need-loop-less Inv-loop μ-loop
 loop-less c = search needs
 
--- src/prepare.rt:81:5
 loop-again : tie.Need-loop-again Inv-loop μ-loop
 loop-again c =
     let v = c .before .before .before .loop .inv in
     (omega arith, chained-more _ _ _ (v .1) (c .add16 .ensures))
 
--- src/prepare.rt:85:5
 put16-requires : tie.Need-put16-requires Inv-loop μ-loop
 put16-requires c κs = search needs
 
--- src/prepare.rt:74:1
 returns : tie.Need-returns Inv-loop μ-loop
 returns c =
     let e : c .before .before .before .before .loop .i ≡ c .before .before .before .before .before .args .n = omega arith in

@@ -9,10 +9,6 @@ use Rattle.definition.specs.Slices.{part, newRe, newIm, updated}
 use Rattle.definition_laws.proofs.Mapped.{Mapped, mapped-none, mapped-more, mapped-read, part-even, part-odd}
 use Rattle.plain.proofs.slices.renew.Statement.{statement}
 use Rattle.plain.proofs.slices.renew.Tie as tie
-use Rattle.plain.proofs.slices.renew.Reads as reads
-use Rattle.plain.proofs.slices.renew.Lts as lts
-use Rattle.plain.proofs.slices.at.Reads as at-reads
-use Rattle.plain.proofs.slices.update_weight.Reads as update-weight-reads
 
 abbrev Inv-loop : tie.InvT-loop
 Inv-loop w₀ x g n i₀ w i =
@@ -22,71 +18,54 @@ abbrev μ-loop : tie.MeasureT-loop
 μ-loop w₀ x g n i₀ w i =
     n - i
 
--- src/slices.rt:82:5
 loop-holds : tie.Need-loop-holds Inv-loop μ-loop
 loop-holds c = (search needs, (refl, mapped-none _ _))
 
--- src/slices.rt:83:17
 mul-j : tie.Need-mul-j Inv-loop μ-loop
 mul-j c = search needs
 
--- src/slices.rt:85:17
 mul-t10 : tie.Need-mul-t10 Inv-loop μ-loop
 mul-t10 c = search needs
 
--- src/slices.rt:85:17
 slice-read-t12 : tie.Need-slice-read-t12 Inv-loop μ-loop
 slice-read-t12 c = search needs
 
--- src/slices.rt:86:19
 add-t13 : tie.Need-add-t13 Inv-loop μ-loop
 add-t13 c = search needs
 
--- src/slices.rt:86:17
 mul-t14 : tie.Need-mul-t14 Inv-loop μ-loop
 mul-t14 c = search needs
 
--- src/slices.rt:86:17
 slice-read-t16 : tie.Need-slice-read-t16 Inv-loop μ-loop
 slice-read-t16 c = search needs
 
--- src/slices.rt:88:41
 at-requires : tie.Need-at-requires Inv-loop μ-loop
 at-requires c κs = search needs
 
--- src/slices.rt:88:13
 update-weight-requires : tie.Need-update-weight-requires Inv-loop μ-loop
 update-weight-requires c κs = search needs
 
--- src/slices.rt:89:9
 mul-w : tie.Need-mul-w Inv-loop μ-loop
 mul-w c = search needs
 
--- src/slices.rt:89:9
 slice-write-w : tie.Need-slice-write-w Inv-loop μ-loop
 slice-write-w c = search needs
 
--- src/slices.rt:90:11
 add-w : tie.Need-add-w Inv-loop μ-loop
 add-w c = search needs
 
--- src/slices.rt:90:9
 mul-w-2 : tie.Need-mul-w-2 Inv-loop μ-loop
 mul-w-2 c = search needs
 
--- src/slices.rt:90:9
 slice-write-w-2 : tie.Need-slice-write-w-2 Inv-loop μ-loop
 slice-write-w-2 c = simp length-set (omega arith)
 
--- src/slices.rt:91:9
 add-i : tie.Need-add-i Inv-loop μ-loop
 add-i c = search needs
 
--- src/slices.rt:82:5
 loop-less : tie.Need-loop-less Inv-loop μ-loop
 loop-less c = search needs
 
--- src/slices.rt:82:5
 loop-again : tie.Need-loop-again Inv-loop μ-loop
 loop-again c = let t = c in
     let l = t .before .before .before .before .before in
@@ -105,11 +84,9 @@ loop-again c = let t = c in
     let m = mapped-more (2 * i + 1) _ n1 (omega arith) (mapped-more (2 * i) _ n0 (omega arith) (v .1 .1)) in
     (omega arith, (simp length-set (v .1 .0), rw e m))
 
--- src/slices.rt:77:1
 same-length : tie.Need-same-length Inv-loop μ-loop
 same-length c = search needs
 
--- src/slices.rt:77:1
 returns : tie.Need-returns Inv-loop μ-loop
 unfolding updated
 returns c = let l = c .before in

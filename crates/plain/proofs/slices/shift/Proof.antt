@@ -8,8 +8,6 @@ use lib.Ieee.{Float, nan}
 use Rattle.definition_laws.proofs.Mapped.{Mapped, mapped-none, mapped-more, mapped-read, shift-list}
 use Rattle.plain.proofs.slices.shift.Statement.{statement}
 use Rattle.plain.proofs.slices.shift.Tie as tie
-use Rattle.plain.proofs.slices.shift.Reads as reads
-use Rattle.plain.proofs.slices.shift.Lts as lts
 
 abbrev Inv-loop : tie.InvT-loop
 Inv-loop x₀ n a₀ b₀ i₀ x a b i =
@@ -19,63 +17,48 @@ abbrev μ-loop : tie.MeasureT-loop
 μ-loop x₀ n a₀ b₀ i₀ x a b i =
     n - i
 
--- src/slices.rt:39:5
 loop-holds : tie.Need-loop-holds Inv-loop μ-loop
 loop-holds c = (search needs, (refl, (mapped-none _ _, (refl, refl))))
 
--- src/slices.rt:40:17
 mul-j : tie.Need-mul-j Inv-loop μ-loop
 mul-j c = search needs
 
--- src/slices.rt:41:17
 mul-c : tie.Need-mul-c Inv-loop μ-loop
 mul-c c = search needs
 
--- src/slices.rt:41:17
 slice-read-c : tie.Need-slice-read-c Inv-loop μ-loop
 slice-read-c c = search needs
 
--- src/slices.rt:42:19
 add-d : tie.Need-add-d Inv-loop μ-loop
 add-d c = search needs
 
--- src/slices.rt:42:17
 mul-d : tie.Need-mul-d Inv-loop μ-loop
 mul-d c = search needs
 
--- src/slices.rt:42:17
 slice-read-d : tie.Need-slice-read-d Inv-loop μ-loop
 slice-read-d c = search needs
 
--- src/slices.rt:43:9
 mul-x : tie.Need-mul-x Inv-loop μ-loop
 mul-x c = search needs
 
--- src/slices.rt:43:9
 slice-write-x : tie.Need-slice-write-x Inv-loop μ-loop
 slice-write-x c = search needs
 
--- src/slices.rt:44:11
 add-x : tie.Need-add-x Inv-loop μ-loop
 add-x c = search needs
 
--- src/slices.rt:44:9
 mul-x-2 : tie.Need-mul-x-2 Inv-loop μ-loop
 mul-x-2 c = search needs
 
--- src/slices.rt:44:9
 slice-write-x-2 : tie.Need-slice-write-x-2 Inv-loop μ-loop
 slice-write-x-2 c = simp length-set (omega arith)
 
--- src/slices.rt:47:9
 add-i : tie.Need-add-i Inv-loop μ-loop
 add-i c = search needs
 
--- src/slices.rt:39:5
 loop-less : tie.Need-loop-less Inv-loop μ-loop
 loop-less c = search needs
 
--- src/slices.rt:39:5
 loop-again : tie.Need-loop-again Inv-loop μ-loop
 loop-again c = let l = c .before .before .before in
     let v = l .loop .inv in
@@ -86,11 +69,9 @@ loop-again c = let l = c .before .before .before in
     let m = mapped-more (2 * i + 1) (l .loop .b) (v .1 .1 .1 .1) (omega arith) (mapped-more (2 * i) (l .loop .a) (v .1 .1 .1 .0) (omega arith) (v .1 .1 .0)) in
     (omega arith, (simp length-set (v .1 .0), (rw e m, (rw s (mapped-read (2 * i) (2 * i) nan (omega arith) (v .1 .1 .0)), rw s1 (mapped-read (2 * i) (2 * i + 1) nan (omega arith) (v .1 .1 .0))))))
 
--- src/slices.rt:32:1
 same-length : tie.Need-same-length Inv-loop μ-loop
 same-length c = search needs
 
--- src/slices.rt:32:1
 returns : tie.Need-returns Inv-loop μ-loop
 returns c = let l = c .before in
     let e : l .loop .i ≡ l .before .args .n = omega arith in

@@ -6,10 +6,6 @@ use Rattle.definition.specs.Slices.{power}
 use Rattle.definition_laws.proofs.Mapped.{power-more}
 use Rattle.plain.proofs.slices.window_power.Statement.{statement}
 use Rattle.plain.proofs.slices.window_power.Tie as tie
-use Rattle.plain.proofs.slices.window_power.Reads as reads
-use Rattle.plain.proofs.slices.window_power.Lts as lts
-use Rattle.plain.proofs.slices.at.Reads as at-reads
-use Rattle.plain.proofs.slices.norm.Reads as norm-reads
 
 abbrev Inv-loop : tie.InvT-loop
 Inv-loop x from first n sum₀ i₀ sum i =
@@ -19,31 +15,24 @@ abbrev μ-loop : tie.MeasureT-loop
 μ-loop x from first n sum₀ i₀ sum i =
     n - i
 
--- src/slices.rt:58:5
 loop-holds : tie.Need-loop-holds Inv-loop μ-loop
 loop-holds c = search needs
 
--- src/slices.rt:59:13
 at-requires : tie.Need-at-requires Inv-loop μ-loop
 at-requires c κs = search needs
 
--- src/slices.rt:60:21
 norm-requires : tie.Need-norm-requires Inv-loop μ-loop
 norm-requires c κs = search needs
 
--- src/slices.rt:61:9
 add-i : tie.Need-add-i Inv-loop μ-loop
 add-i c = search needs
 
--- src/slices.rt:58:5
 loop-less : tie.Need-loop-less Inv-loop μ-loop
 loop-less c = search needs
 
--- src/slices.rt:58:5
 loop-again : tie.Need-loop-again Inv-loop μ-loop
 loop-again c = (omega arith, search power-more)
 
--- src/slices.rt:52:1
 returns : tie.Need-returns Inv-loop μ-loop
 returns c = let l = c .before in
     let e : l .loop .i ≡ l .before .before .args .n = omega arith in

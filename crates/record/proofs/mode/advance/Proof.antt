@@ -3,34 +3,25 @@ use native.Mathlib.Omega.{arith}
 use Rattle.record.proofs.Advance.{adv-never, adv-more, adv-decision, adv-switch, count-below}
 use Rattle.record.proofs.mode.advance.Statement.{statement}
 use Rattle.record.proofs.mode.advance.Tie as tie
-use Rattle.record.proofs.mode.advance.Reads as reads
-use Rattle.record.proofs.mode.advance.Lts as lts
 
--- src/mode.rt:210:29
 enum-told : tie.Need-enum-told
 enum-told c = search needs
 
--- src/mode.rt:212:16
 enum-told-2 : tie.Need-enum-told-2
 enum-told-2 c = search needs
 
--- src/mode.rt:213:17
 returns : tie.Need-returns
 returns c = search adv-never
 
--- src/mode.rt:215:25
 add-count : tie.Need-add-count
 add-count c = let s = c .before .before .before .before .before .args .s in let b = count-below s (search needs) (search needs) (search needs) in record { fits = omega arith }
 
--- src/mode.rt:219:17
 returns-2 : tie.Need-returns-2
 returns-2 c = search adv-more
 
--- src/mode.rt:202:1
 returns-3 : tie.Need-returns-3
 returns-3 c = search adv-decision
 
--- src/mode.rt:202:1
 returns-4 : tie.Need-returns-4
 returns-4 c = search adv-switch
 

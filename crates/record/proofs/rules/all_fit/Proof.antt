@@ -9,9 +9,6 @@ use Rattle.definition.specs.Rules.{weightFits}
 use Rattle.record.proofs.Every.{every-more, every-all}
 use Rattle.record.proofs.rules.all_fit.Statement.{statement}
 use Rattle.record.proofs.rules.all_fit.Tie as tie
-use Rattle.record.proofs.rules.all_fit.Reads as reads
-use Rattle.record.proofs.rules.all_fit.Lts as lts
-use Rattle.record.proofs.rules.weight_fits.Reads as weight-fits-reads
 
 abbrev Inv-loop : tie.InvT-loop
 Inv-loop x ok₀ i₀ ok i = (i ≤ length x) × ((ok && every weightFits (drop i x)) ≡ every weightFits x)
@@ -19,35 +16,27 @@ Inv-loop x ok₀ i₀ ok i = (i ≤ length x) × ((ok && every weightFits (drop 
 abbrev μ-loop : tie.MeasureT-loop
 μ-loop x ok₀ i₀ ok i = length x - i
 
--- src/rules.rt:117:5
 loop-holds : tie.Need-loop-holds Inv-loop μ-loop
 loop-holds c = (search needs, refl)
 
--- src/rules.rt:118:25
 mul-weight-fits : tie.Need-mul-weight-fits Inv-loop μ-loop
 mul-weight-fits c = search needs
 
--- src/rules.rt:118:25
 shared-slice-read-weight-fits : tie.Need-shared-slice-read-weight-fits Inv-loop μ-loop
 shared-slice-read-weight-fits c = search needs
 
--- src/rules.rt:118:13
 weight-fits-requires : tie.Need-weight-fits-requires Inv-loop μ-loop
 weight-fits-requires c κs = search needs
 
--- src/rules.rt:121:9
 add-i : tie.Need-add-i Inv-loop μ-loop
 add-i c = search needs
 
--- src/rules.rt:117:5
 loop-less : tie.Need-loop-less Inv-loop μ-loop
 loop-less c = search needs
 
--- src/rules.rt:117:5
 loop-again : tie.Need-loop-again Inv-loop μ-loop
 loop-again c = (omega arith, search every-more)
 
--- src/rules.rt:113:1
 returns : tie.Need-returns Inv-loop μ-loop
 returns c = search every-all
 

@@ -3,10 +3,7 @@ use mathlib.Core.Path.{refl}
 use Rattle.definition.specs.Rules.{bwFits}
 use Rattle.record.proofs.rules.bw_fits.Statement.{statement}
 use Rattle.record.proofs.rules.bw_fits.Tie as tie
-use Rattle.record.proofs.rules.bw_fits.Reads as reads
-use Rattle.record.proofs.rules.bw_fits.Lts as lts
 
--- src/rules.rt:56:1
 returns : tie.Need-returns
 unfolding bwFits
 returns c = refl

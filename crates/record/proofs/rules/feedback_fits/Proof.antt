@@ -3,10 +3,7 @@ use mathlib.Core.Path.{refl}
 use Rattle.definition.specs.Rules.{feedbackFits}
 use Rattle.record.proofs.rules.feedback_fits.Statement.{statement}
 use Rattle.record.proofs.rules.feedback_fits.Tie as tie
-use Rattle.record.proofs.rules.feedback_fits.Reads as reads
-use Rattle.record.proofs.rules.feedback_fits.Lts as lts
 
--- src/rules.rt:38:1
 returns : tie.Need-returns
 unfolding feedbackFits
 returns c = refl

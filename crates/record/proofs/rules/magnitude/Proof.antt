@@ -4,18 +4,13 @@ use lib.Dec.{T}
 use Rattle.record.proofs.Bits.{mag-below, mag-zero, mag-above}
 use Rattle.record.proofs.rules.magnitude.Statement.{statement}
 use Rattle.record.proofs.rules.magnitude.Tie as tie
-use Rattle.record.proofs.rules.magnitude.Reads as reads
-use Rattle.record.proofs.rules.magnitude.Lts as lts
 
--- src/rules.rt:17:9
 returns : tie.Need-returns
 returns c = search mag-below
 
--- src/rules.rt:20:9
 returns-2 : tie.Need-returns-2
 returns-2 c = search (mag-zero, needs)
 
--- src/rules.rt:13:1
 returns-3 : tie.Need-returns-3
 returns-3 c = search mag-above
 

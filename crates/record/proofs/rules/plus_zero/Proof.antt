@@ -4,18 +4,13 @@ use Rattle.definition.specs.Rules.{plusZero}
 use Rattle.record.proofs.Bits.{zero-nan, no-nan}
 use Rattle.record.proofs.rules.plus_zero.Statement.{statement}
 use Rattle.record.proofs.rules.plus_zero.Tie as tie
-use Rattle.record.proofs.rules.plus_zero.Reads as reads
-use Rattle.record.proofs.rules.plus_zero.Lts as lts
 
--- src/rules.rt:66:9
 returns : tie.Need-returns
 returns c = search zero-nan
 
--- src/rules.rt:68:5
 float-to-bits-result : tie.Need-float-to-bits-result
 float-to-bits-result c = search no-nan
 
--- src/rules.rt:62:1
 returns-2 : tie.Need-returns-2
 unfolding plusZero
 returns-2 c = refl

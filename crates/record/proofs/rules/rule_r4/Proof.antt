@@ -2,26 +2,19 @@ use borrow.Author.Needs.{needs}
 use Rattle.record.proofs.Checking.{r4-never, r4-cma, r4-decision}
 use Rattle.record.proofs.rules.rule_r4.Statement.{statement}
 use Rattle.record.proofs.rules.rule_r4.Tie as tie
-use Rattle.record.proofs.rules.rule_r4.Reads as reads
-use Rattle.record.proofs.rules.rule_r4.Lts as lts
 
--- src/rules.rt:141:16
 enum-told : tie.Need-enum-told
 enum-told c = search needs
 
--- src/rules.rt:142:17
 returns : tie.Need-returns
 returns c = search r4-never
 
--- src/rules.rt:146:31
 enum-told-2 : tie.Need-enum-told-2
 enum-told-2 c = search needs
 
--- src/rules.rt:132:1
 returns-2 : tie.Need-returns-2
 returns-2 c = search r4-cma
 
--- src/rules.rt:132:1
 returns-3 : tie.Need-returns-3
 returns-3 c = search r4-decision
 

@@ -4,26 +4,19 @@ use Rattle.definition.specs.Rules.{sameBits}
 use mathlib.Core.Path.{refl}
 use Rattle.record.proofs.rules.same_bits.Statement.{statement}
 use Rattle.record.proofs.rules.same_bits.Tie as tie
-use Rattle.record.proofs.rules.same_bits.Reads as reads
-use Rattle.record.proofs.rules.same_bits.Lts as lts
 
--- src/rules.rt:30:9
 returns : tie.Need-returns
 returns c = search (bits-nan, needs)
 
--- src/rules.rt:33:9
 returns-2 : tie.Need-returns-2
 returns-2 c = search (bits-other, needs)
 
--- src/rules.rt:35:5
 float-to-bits-result : tie.Need-float-to-bits-result
 float-to-bits-result c = search no-nan
 
--- src/rules.rt:35:24
 float-to-bits-result-2 : tie.Need-float-to-bits-result-2
 float-to-bits-result-2 c = search no-nan
 
--- src/rules.rt:26:1
 returns-3 : tie.Need-returns-3
 unfolding sameBits
 returns-3 c = refl

@@ -3,10 +3,7 @@ use mathlib.Core.Path.{refl}
 use Rattle.definition.specs.Rules.{tapsFit}
 use Rattle.record.proofs.rules.taps_fit.Statement.{statement}
 use Rattle.record.proofs.rules.taps_fit.Tie as tie
-use Rattle.record.proofs.rules.taps_fit.Reads as reads
-use Rattle.record.proofs.rules.taps_fit.Lts as lts
 
--- src/rules.rt:44:1
 returns : tie.Need-returns
 unfolding tapsFit
 returns c = refl

@@ -9,9 +9,6 @@ use Rattle.definition.specs.Slices.{every}
 use Rattle.record.proofs.Every.{every-more, every-all}
 use Rattle.record.proofs.slices.all_finite.Statement.{statement}
 use Rattle.record.proofs.slices.all_finite.Tie as tie
-use Rattle.record.proofs.slices.all_finite.Reads as reads
-use Rattle.record.proofs.slices.all_finite.Lts as lts
-use Rattle.numeric.proofs.is_finite.Reads as is-finite-reads
 
 abbrev Inv-loop : tie.InvT-loop
 Inv-loop x ok₀ i₀ ok i = (i ≤ length x) × ((ok && every finite (drop i x)) ≡ every finite x)
@@ -19,35 +16,27 @@ Inv-loop x ok₀ i₀ ok i = (i ≤ length x) × ((ok && every finite (drop i x)
 abbrev μ-loop : tie.MeasureT-loop
 μ-loop x ok₀ i₀ ok i = length x - i
 
--- src/slices.rt:100:5
 loop-holds : tie.Need-loop-holds Inv-loop μ-loop
 loop-holds c = (search needs, refl)
 
--- src/slices.rt:101:32
 mul-is-finite : tie.Need-mul-is-finite Inv-loop μ-loop
 mul-is-finite c = search needs
 
--- src/slices.rt:101:32
 shared-slice-read-is-finite : tie.Need-shared-slice-read-is-finite Inv-loop μ-loop
 shared-slice-read-is-finite c = search needs
 
--- src/slices.rt:101:13
 is-finite-requires : tie.Need-is-finite-requires Inv-loop μ-loop
 is-finite-requires c κs = search needs
 
--- src/slices.rt:104:9
 add-i : tie.Need-add-i Inv-loop μ-loop
 add-i c = search needs
 
--- src/slices.rt:100:5
 loop-less : tie.Need-loop-less Inv-loop μ-loop
 loop-less c = search needs
 
--- src/slices.rt:100:5
 loop-again : tie.Need-loop-again Inv-loop μ-loop
 loop-again c = (omega arith, search every-more)
 
--- src/slices.rt:96:1
 returns : tie.Need-returns Inv-loop μ-loop
 returns c = search every-all
 

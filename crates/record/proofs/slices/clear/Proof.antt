@@ -7,8 +7,6 @@ use Rattle.types.specs.Bits.{zero32}
 use Rattle.definition_laws.proofs.Mapped.{Mapped, mapped-none, mapped-more, clear-all}
 use Rattle.record.proofs.slices.clear.Statement.{statement}
 use Rattle.record.proofs.slices.clear.Tie as tie
-use Rattle.record.proofs.slices.clear.Reads as reads
-use Rattle.record.proofs.slices.clear.Lts as lts
 
 abbrev Inv-loop : tie.InvT-loop
 Inv-loop x₀ i₀ x i =
@@ -18,36 +16,28 @@ abbrev μ-loop : tie.MeasureT-loop
 μ-loop x₀ i₀ x i =
     length x₀ - i
 
--- src/slices.rt:114:5
 loop-holds : tie.Need-loop-holds Inv-loop μ-loop
 loop-holds c = (search needs, (refl, mapped-none _ _))
 
--- src/slices.rt:115:9
 mul-x : tie.Need-mul-x Inv-loop μ-loop
 mul-x c = search needs
 
--- src/slices.rt:115:9
 slice-write-x : tie.Need-slice-write-x Inv-loop μ-loop
 slice-write-x c = search needs
 
--- src/slices.rt:116:9
 add-i : tie.Need-add-i Inv-loop μ-loop
 add-i c = search needs
 
--- src/slices.rt:114:5
 loop-less : tie.Need-loop-less Inv-loop μ-loop
 loop-less c = search needs
 
--- src/slices.rt:114:5
 loop-again : tie.Need-loop-again Inv-loop μ-loop
 loop-again c = let l = c .before in
     (omega arith, (simp length-set (l .loop .inv .1 .0), mapped-more (l .loop .i) _ refl (omega arith) (l .loop .inv .1 .1)))
 
--- src/slices.rt:110:1
 same-length : tie.Need-same-length Inv-loop μ-loop
 same-length c = search needs
 
--- src/slices.rt:110:1
 returns : tie.Need-returns Inv-loop μ-loop
 returns c = let l = c .before in
     clear-all _ _ (l .loop .i) (omega arith) (omega arith) (l .loop .inv .1 .1)

@@ -3,36 +3,25 @@ use borrow.Author.Tests.{not-true, not-false}
 use Rattle.record.proofs.Checking.{settings-cma, settings-dd, settings-bw, settings-fine}
 use Rattle.record.proofs.verdict.settings_verdict.Statement.{statement}
 use Rattle.record.proofs.verdict.settings_verdict.Tie as tie
-use Rattle.record.proofs.verdict.settings_verdict.Reads as reads
-use Rattle.record.proofs.verdict.settings_verdict.Lts as lts
-use Rattle.record.proofs.rules.bw_fits.Reads as bw-fits-reads
-use Rattle.record.proofs.rules.check_mu.Reads as check-mu-reads
 
--- src/verdict.rt:47:9
 check-mu-requires : tie.Need-check-mu-requires
 check-mu-requires c κs = search needs
 
--- src/verdict.rt:48:9
 returns : tie.Need-returns
 returns c = search (settings-cma, not-true)
 
--- src/verdict.rt:50:9
 check-mu-requires-2 : tie.Need-check-mu-requires-2
 check-mu-requires-2 c κs = search needs
 
--- src/verdict.rt:51:9
 returns-2 : tie.Need-returns-2
 returns-2 c = search (settings-dd, not-true, not-false)
 
--- src/verdict.rt:53:9
 bw-fits-requires : tie.Need-bw-fits-requires
 bw-fits-requires c κs = search needs
 
--- src/verdict.rt:54:9
 returns-3 : tie.Need-returns-3
 returns-3 c = search (settings-bw, not-true, not-false)
 
--- src/verdict.rt:44:1
 returns-4 : tie.Need-returns-4
 returns-4 c = search (settings-fine, not-false)
 

@@ -4,42 +4,28 @@ use native.Mathlib.Omega.{arith}
 use borrow.Author.Needs.{needs}
 use Rattle.runs.proofs.block.begin.Statement.{statement}
 use Rattle.runs.proofs.block.begin.Tie as tie
-use Rattle.runs.proofs.block.begin.Reads as reads
-use Rattle.runs.proofs.block.begin.Lts as lts
-use Rattle.lanes.proofs.prepare.enter.Reads as enter-reads
-use Rattle.lanes.proofs.prepare.powers.Reads as powers-reads
-use Rattle.lanes.proofs.prepare.sizes.Reads as sizes-reads
-use Rattle.lanes.proofs.prepare.squares.Reads as squares-reads
 
--- src/block.rt:44:17
 sub-first : tie.Need-sub-first
 sub-first c = search needs
 
--- src/block.rt:45:16
 mul-from : tie.Need-mul-from
 mul-from c = search needs
 
--- src/block.rt:46:5
 enter-requires : tie.Need-enter-requires
 enter-requires c κs = search needs
 
--- src/block.rt:47:46
 add-squares : tie.Need-add-squares
 add-squares c = search needs
 
--- src/block.rt:47:5
 squares-requires : tie.Need-squares-requires
 squares-requires c κs = search needs
 
--- src/block.rt:48:5
 powers-requires : tie.Need-powers-requires
 powers-requires c κs = search needs
 
--- src/block.rt:49:5
 sizes-requires : tie.Need-sizes-requires
 sizes-requires c κs = search needs
 
--- src/block.rt:28:1
 returns : tie.Need-returns
 returns c = (begins _ _ _ _ _ _ _ _ _ _ _ _ _ (omega arith) (c .before .before .before .before .before .before .before .before .before .before .enter .ensures) (c .before .before .before .before .before .before .squares .ensures) (c .before .before .before .powers .ensures) (c .sizes .ensures .0), record { ps-long = c .before .before .before .powers .ensures .long ∙ c .before .before .before .before .before .before .before .before .before .before .before .before .before .before .pre .1 .0 .ps-long; ss-long = c .sizes .ensures .1 })
 

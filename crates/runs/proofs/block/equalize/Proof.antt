@@ -3,51 +3,34 @@ use Rattle.runs.proofs.Calling.{asked-shape, asked-long, asked-r4, call
 use borrow.Author.Needs.{needs}
 use Rattle.runs.proofs.block.equalize.Statement.{statement}
 use Rattle.runs.proofs.block.equalize.Tie as tie
-use Rattle.runs.proofs.block.equalize.Reads as reads
-use Rattle.runs.proofs.block.equalize.Lts as lts
-use Rattle.lanes.proofs.load.limits.Reads as limits-reads
-use Rattle.runs.proofs.block.load.Reads as load-reads
-use Rattle.runs.proofs.block.runs.Reads as runs-reads
-use Rattle.runs.proofs.block.shape_of.Reads as shape-of-reads
-use Rattle.runs.proofs.block.store.Reads as store-reads
 
--- src/block.rt:312:9
 shape-of-requires : tie.Need-shape-of-requires
 shape-of-requires c κs = asked-shape _ _ _ _ _ _ _ _ (c .before .before .before .before .before .pre .1)
 
--- src/block.rt:313:17
 limits-requires : tie.Need-limits-requires
 limits-requires c κs = search needs
 
--- src/block.rt:319:5
 load-requires : tie.Need-load-requires
 load-requires c κs = (asked-long _ _ _ _ _ _ _ _ (c .before .before .before .before .before .before .before .before .before .before .before .before .before .before .pre .1), (asked-shape _ _ _ _ _ _ _ _ (c .before .before .before .before .before .before .before .before .before .before .before .before .before .before .pre .1) .1, record { wr = refl; wi = refl; xr = refl; xi = refl; q = refl }))
 
--- src/block.rt:330:9
 runs-requires : tie.Need-runs-requires
 runs-requires c κs = (c .before .before .before .before .before .before .before .before .before .before .before .before .before .before .before .before .before .before .before .before .before .before .before .pre .0, ((c .before .before .before .before .before .before .before .before .before .before .before .before .before .before .before .before .before .before .before .before .before .before .before .pre .1 .shaped .input, c .before .before .before .before .before .before .before .before .before .before .before .before .before .before .before .before .before .before .before .before .before .before .before .pre .1 .shaped .output), ((asked-shape _ _ _ _ _ _ _ _ (c .before .before .before .before .before .before .before .before .before .before .before .before .before .before .before .before .before .before .before .before .before .before .before .pre .1) .1 .0, c .before .before .before .before .before .before .before .before .before .before .before .before .before .before .before .before .before .shape-of .ensures .fits), (c .before .before .before .before .before .before .before .before .load .ensures .lanes, (c .before .before .before .before .before .before .before .before .load .ensures .long, asked-r4 _ _ _ _ _ _ _ _ (c .before .before .before .before .before .before .before .before .before .before .before .before .before .before .before .before .before .before .before .before .before .before .before .pre .1))))))
 
--- src/block.rt:345:5
 store-requires : tie.Need-store-requires
 store-requires c κs = (asked-long _ _ _ _ _ _ _ _ (c .before .before .before .before .before .before .before .before .before .before .before .before .before .before .before .before .before .before .before .before .before .before .before .before .before .before .before .before .before .before .before .before .before .before .pre .1), asked-shape _ _ _ _ _ _ _ _ (c .before .before .before .before .before .before .before .before .before .before .before .before .before .before .before .before .before .before .before .before .before .before .before .before .before .before .before .before .before .before .before .before .before .before .pre .1) .1)
 
--- src/block.rt:296:1
 same-length : tie.Need-same-length
 same-length c = search needs
 
--- src/block.rt:296:1
 same-length-2 : tie.Need-same-length-2
 same-length-2 c = search needs
 
--- src/block.rt:296:1
 same-length-3 : tie.Need-same-length-3
 same-length-3 c = search needs
 
--- src/block.rt:296:1
 same-length-4 : tie.Need-same-length-4
 same-length-4 c = search needs
 
--- src/block.rt:296:1
 returns : tie.Need-returns
 returns c = called _ _ _ _ _ _ _ _ _ _ _ _ _ _ _ _ _ _ _ _ _ (c .before .before .before .before .before .before .before .before .before .before .before .before .before .before .before .before .before .before .before .before .before .before .before .before .before .before .before .before .before .before .before .before .before .before .before .before .before .before .before .pre .1) (c .before .before .before .before .before .before .before .before .before .before .before .before .before .before .before .before .before .before .before .before .before .before .before .before .before .before .before .before .before .before .before .before .before .shape-of .ensures) (c .before .before .before .before .before .before .before .before .before .before .before .before .before .before .before .before .before .before .before .before .before .before .before .before .before .before .before .before .before .before .before .before .limits .ensures) (c .before .before .before .before .before .before .before .before .before .before .before .before .before .before .before .before .before .before .before .before .before .before .before .before .load .ensures) (c .before .before .before .before .before .before .before .before .before .before .before .before .before .before .before .runs .ensures) (c .before .before .before .before .store .ensures)
 

@@ -4,41 +4,28 @@ use native.Mathlib.Omega.{arith}
 use borrow.Author.Needs.{needs}
 use Rattle.runs.proofs.block.load.Statement.{statement}
 use Rattle.runs.proofs.block.load.Tie as tie
-use Rattle.runs.proofs.block.load.Reads as reads
-use Rattle.runs.proofs.block.load.Lts as lts
-use Rattle.lanes.proofs.load.split.Reads as split-reads
-use Rattle.lanes.proofs.load.split_long.Reads as split-long-reads
-use Rattle.lanes.proofs.prepare.squares.Reads as squares-reads
 
--- src/block.rt:266:5
 split-requires : tie.Need-split-requires
 split-requires c κs = ((zeros-long 144 _ (c .before .before .before .before .pre .1 .1 .wr), zeros-long 144 _ (c .before .before .before .before .pre .1 .1 .wi)), (omega (arith, c .before .before .before .before .pre .0 .0, c .before .before .before .before .pre .0 .1, c .before .before .before .before .pre .1 .0 .0, c .before .before .before .before .pre .1 .0 .1), omega (arith, c .before .before .before .before .pre .0 .0, c .before .before .before .before .pre .0 .1, c .before .before .before .before .pre .1 .0 .0, c .before .before .before .before .pre .1 .0 .1)))
 
--- src/block.rt:267:32
 add-split : tie.Need-add-split
 add-split c = search needs
 
--- src/block.rt:267:5
 split-requires-2 : tie.Need-split-requires-2
 split-requires-2 c κs = ((c .before .before .split .ensures .re .long ∙ zeros-long 144 _ (c .before .before .before .before .before .before .before .pre .1 .1 .wr), c .before .before .split .ensures .im .long ∙ zeros-long 144 _ (c .before .before .before .before .before .before .before .pre .1 .1 .wi)), (omega (arith, c .before .before .before .before .before .before .before .pre .0 .0, c .before .before .before .before .before .before .before .pre .0 .1, c .before .before .before .before .before .before .before .pre .1 .0 .0, c .before .before .before .before .before .before .before .pre .1 .0 .1), omega (arith, c .before .before .before .before .before .before .before .pre .0 .0, c .before .before .before .before .before .before .before .pre .0 .1, c .before .before .before .before .before .before .before .pre .1 .0 .0, c .before .before .before .before .before .before .before .pre .1 .0 .1)))
 
--- src/block.rt:268:5
 split-long-requires : tie.Need-split-long-requires
 split-long-requires c κs = ((zeros-long 288 _ (c .before .before .before .before .before .before .before .before .before .before .pre .1 .1 .xr), zeros-long 288 _ (c .before .before .before .before .before .before .before .before .before .before .pre .1 .1 .xi)), (omega (arith, c .before .before .before .before .before .before .before .before .before .before .pre .0 .0, c .before .before .before .before .before .before .before .before .before .before .pre .0 .1, c .before .before .before .before .before .before .before .before .before .before .pre .1 .0 .0, c .before .before .before .before .before .before .before .before .before .before .pre .1 .0 .1), omega (arith, c .before .before .before .before .before .before .before .before .before .before .pre .0 .0, c .before .before .before .before .before .before .before .before .before .before .pre .0 .1, c .before .before .before .before .before .before .before .before .before .before .pre .1 .0 .0, c .before .before .before .before .before .before .before .before .before .before .pre .1 .0 .1)))
 
--- src/block.rt:269:5
 split-long-requires-2 : tie.Need-split-long-requires-2
 split-long-requires-2 c κs = ((c .before .before .split-long .ensures .re .long ∙ zeros-long 288 _ (c .before .before .before .before .before .before .before .before .before .before .before .before .before .pre .1 .1 .xr), c .before .before .split-long .ensures .im .long ∙ zeros-long 288 _ (c .before .before .before .before .before .before .before .before .before .before .before .before .before .pre .1 .1 .xi)), (omega (arith, c .before .before .before .before .before .before .before .before .before .before .before .before .before .pre .0 .0, c .before .before .before .before .before .before .before .before .before .before .before .before .before .pre .0 .1, c .before .before .before .before .before .before .before .before .before .before .before .before .before .pre .1 .0 .0, c .before .before .before .before .before .before .before .before .before .before .before .before .before .pre .1 .0 .1), omega (arith, c .before .before .before .before .before .before .before .before .before .before .before .before .before .pre .0 .0, c .before .before .before .before .before .before .before .before .before .before .before .before .before .pre .0 .1, c .before .before .before .before .before .before .before .before .before .before .before .before .before .pre .1 .0 .0, c .before .before .before .before .before .before .before .before .before .before .before .before .before .pre .1 .0 .1)))
 
--- src/block.rt:270:45
 add-squares : tie.Need-add-squares
 add-squares c = search needs
 
--- src/block.rt:270:5
 squares-requires : tie.Need-squares-requires
 squares-requires c κs = (zeros-long 288 _ (c .before .before .before .before .before .before .before .before .before .before .before .before .before .before .before .before .before .pre .1 .1 .q), (omega arith, omega (arith, c .before .before .before .before .before .before .before .before .before .before .before .before .before .before .before .before .before .pre .0 .0, c .before .before .before .before .before .before .before .before .before .before .before .before .before .before .before .before .before .pre .0 .1, c .before .before .before .before .before .before .before .before .before .before .before .before .before .before .before .before .before .pre .1 .0 .0, c .before .before .before .before .before .before .before .before .before .before .before .before .before .before .before .before .before .pre .1 .0 .1)))
 
--- src/block.rt:249:1
 returns : tie.Need-returns
 returns c = loads _ _ _ _ _ (c .before .before .before .before .before .before .before .before .before .before .before .before .before .before .before .before .before .before .pre .1 .1) _ _ _ _ _ _ _ _ _ (c .before .before .before .before .before .before .before .before .before .before .before .before .before .split .ensures) (c .before .before .before .before .before .before .before .before .before .before .split2 .ensures) (c .before .before .before .before .before .before .before .split-long .ensures) (c .before .before .before .before .split-long2 .ensures) (c .squares .ensures)
 

@@ -5,10 +5,6 @@ use Rattle.lanes.specs.Arrays.{arrays}
 use Rattle.runs.proofs.Rolling.{Rolling, rolling-none, rolling-more, rolling-all}
 use Rattle.runs.proofs.block.runs.Statement.{statement}
 use Rattle.runs.proofs.block.runs.Tie as tie
-use Rattle.runs.proofs.block.runs.Reads as reads
-use Rattle.runs.proofs.block.runs.Lts as lts
-use Rattle.runs.proofs.block.block.Reads as block-reads
-use Rattle.runs.proofs.block.least.Reads as least-reads
 
 abbrev Inv-loop : tie.InvT-loop
 Inv-loop t g n wr₀ wi₀ limit xr₀ xi₀ q₀ input output₀ marks₀ power₀ steps₀ s₀ i₀ wr wi xr xi q output marks power steps s i =
@@ -18,43 +14,33 @@ abbrev μ-loop : tie.MeasureT-loop
 μ-loop t g n wr₀ wi₀ limit xr₀ xi₀ q₀ input output₀ marks₀ power₀ steps₀ s₀ i₀ wr wi xr xi q output marks power steps s i =
     length marks - i
 
--- src/block.rt:175:5
 loop-holds : tie.Need-loop-holds Inv-loop μ-loop
 loop-holds c = rolling-none _ _ _ _ _ _ _ _ _ _ (c .before .before .before .pre .1 .1 .1 .0) (c .before .before .before .pre .1 .1 .1 .1 .0) (record { ps-long = simp length-replicate; ss-long = simp length-replicate }) (c .before .before .before .pre .1 .1 .1 .1 .1) (c .before .before .before .pre .1 .0 .0) (c .before .before .before .pre .1 .0 .1)
 
--- src/block.rt:176:25
 sub-least : tie.Need-sub-least Inv-loop μ-loop
 sub-least c = omega (arith, c .before .loop .inv .here, c .before .loop .inv .input, c .loop-test .taken)
 
--- src/block.rt:176:13
 least-requires : tie.Need-least-requires Inv-loop μ-loop
 least-requires c κs = (omega (arith, c .before .loop .inv .here, c .before .loop .inv .input, c .loop-test .taken), omega arith)
 
--- src/block.rt:177:17
 add-e : tie.Need-add-e Inv-loop μ-loop
 add-e c = omega (arith, c .before .before .loop .inv .here, c .before .before .loop .inv .input, c .before .loop-test .taken, c .least .ensures .0, c .before .before .before .before .before .before .good .1 .1 .1 .1 .1 .1 .1 .1 .1 .1 .1 .1 .0 .0)
 
--- src/block.rt:178:9
 block-requires : tie.Need-block-requires Inv-loop μ-loop
 block-requires c κs = (c .before .before .before .before .before .before .before .before .before .before .before .before .before .before .before .pre .0, ((c .before .before .before .before .before .before .before .before .before .before .before .loop .inv .input, c .before .before .before .before .before .before .before .before .before .before .before .loop .inv .output), (c .before .before .before .before .before .before .before .before .before .before .before .before .before .before .before .pre .1 .1 .0, ((omega arith, (omega (arith, c .before .before .before .before .before .before .before .before .before .least .ensures .1 .0), omega (arith, c .before .before .before .before .before .before .before .before .before .before .before .loop .inv .here, c .before .before .before .before .before .before .before .before .before .before .before .loop .inv .input, c .before .before .before .before .before .before .before .before .before .before .loop-test .taken, c .before .before .before .before .before .before .before .before .before .least .ensures .0))), (c .before .before .before .before .before .before .before .before .before .before .before .loop .inv .lanes, (c .before .before .before .before .before .before .before .before .before .before .before .loop .inv .long, (c .before .before .before .before .before .before .before .before .before .before .before .loop .inv .room, c .before .before .before .before .before .before .before .before .before .before .before .loop .inv .counts)))))))
 
--- src/block.rt:175:5
 loop-less : tie.Need-loop-less Inv-loop μ-loop
 loop-less c = omega (arith, c .before .before .before .before .before .before .before .before .before .before .before .before .before .before .before .before .loop .inv .here, c .before .before .before .before .before .before .before .before .before .before .before .before .before .before .before .before .loop .inv .input, c .before .before .before .before .before .before .before .before .before .before .before .before .before .before .before .loop-test .taken, c .before .before .before .before .before .before .before .before .before .before .before .before .before .before .least .ensures .0, c .before .before .before .before .before .before .before .before .before .before .before .before .before .before .least .ensures .1 .1, c .before .before .before .before .block .kept .1 .1 .1 .1 .1 .1 .1 .1 .1 .1 .1 .1 .1 .1 .0)
 
--- src/block.rt:175:5
 loop-again : tie.Need-loop-again Inv-loop μ-loop
 loop-again c = rolling-more _ _ _ _ _ _ _ _ _ _ _ _ _ _ _ (c .before .before .before .before .before .before .before .before .before .before .before .before .before .before .before .before .loop .inv) _ _ _ _ _ _ _ (omega arith) (omega (arith, c .before .before .before .before .before .before .before .before .before .before .before .before .before .before .before .before .loop .inv .here, c .before .before .before .before .before .before .before .before .before .before .before .before .before .before .before .before .loop .inv .input, c .before .before .before .before .before .before .before .before .before .before .before .before .before .before .before .loop-test .taken, c .before .before .before .before .before .before .before .before .before .before .before .before .before .before .least .ensures .0)) (c .before .before .before .before .block .kept .1 .1 .1 .1 .1 .1 .1 .1 .1 .1 .1 .1 .1 .0) (c .before .before .before .before .block .kept .1 .1 .1 .1 .1 .1 .1 .1 .1 .1 .1 .1 .1 .1 .0) (c .before .before .before .before .block .ensures .0) (c .before .before .before .before .block .ensures .1)
 
--- src/block.rt:144:1
 same-length : tie.Need-same-length Inv-loop μ-loop
 same-length c = c .before .loop .inv .long-ys
 
--- src/block.rt:144:1
 same-length-2 : tie.Need-same-length-2 Inv-loop μ-loop
 same-length-2 c = c .before .loop .inv .long-ms
 
--- src/block.rt:144:1
 returns : tie.Need-returns Inv-loop μ-loop
 returns c = rolling-all _ _ _ _ _ _ _ _ _ _ _ _ _ _ _ (c .before .loop .inv) (c .loop-test .left)
 

@@ -2,15 +2,10 @@ use borrow.Author.Needs.{needs}
 use Rattle.types.specs.Start.{startState}
 use Rattle.types.proofs.EqualizeState.fresh.Statement.{statement}
 use Rattle.types.proofs.EqualizeState.fresh.Tie as tie
-use Rattle.types.proofs.EqualizeState.fresh.Reads as reads
-use Rattle.types.proofs.EqualizeState.fresh.Lts as lts
-use Rattle.types.proofs.start_mode.Reads as start-mode-reads
 
--- src/lib.rt:150:13
 start-mode-requires : tie.Need-start-mode-requires
 start-mode-requires c κs = search needs
 
--- src/lib.rt:147:5
 returns : tie.Need-returns
 unfolding startState
 returns c = cc
