@@ -23,7 +23,7 @@ use Rattle.definition.specs.Slices.{samplesOf, zeros, startWeights}
 use Rattle.definition.specs.Gains.{phaseDamping, gainKp, gainKi}
 use Rattle.definition.specs.Sample.{Equalizer, allTaps, withRunning}
 use Rattle.definition.specs.Rules.{tapsFit, feedbackFits, muFits, bwFits, ruleR1, ruleR2, rules}
-use Rattle.definition.specs.Run.{Run, runDef, floatsOf, marksOf}
+use Rattle.definition.specs.Run.{Run, runDef, written, symbolParts, markByte}
 
 -- a count of f32 that makes whole complex numbers
 abbrev pub even : ℕ → Bool
@@ -174,7 +174,7 @@ abbrev pub answer : Outcome → Equalizer → List Float → List ℕ → Answer
 answer o q ys ms = record { outcome = o; reply = replyOf o; equalizer = q; out = ys; marks = ms }
 
 abbrev pub servedBy : Run → Answer
-servedBy r = answer Served (r .equalizer) (floatsOf (r .outs)) (marksOf (r .outs))
+servedBy r = answer Served (r .equalizer) (written symbolParts (r .outs)) (written markByte (r .outs))
 
 abbrev pub answerBy : Outcome → Equalizer → List Float → List Float → List ℕ → Answer
 answerBy Served q xs ys ms = servedBy (runDef q (samplesOf xs))

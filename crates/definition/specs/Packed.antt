@@ -10,7 +10,7 @@ use Rattle.types.specs.declared.Equalized.{Equalized}
 use Rattle.types.specs.declared.Fresh.{Fresh}
 use Rattle.definition.specs.Sample.{Equalizer}
 use Rattle.definition.specs.Rules.{acceptedDef}
-use Rattle.definition.specs.Run.{Run, floatsOf, marksOf}
+use Rattle.definition.specs.Run.{Run, written, symbolParts, markByte}
 use Rattle.definition.specs.Calls.{NewAnswer, newAnswer, ResetAnswer, resetAnswer, SetAnswer, setAnswer, Answer, answer}
 
 -- the record, and what the slices of weights and window hold
@@ -40,5 +40,5 @@ pub record Shaped (q : Equalizer) (xs ys : List Float) (ms : List ℕ) : Type 0 
 -- a run's outcome in the slices
 pub record Ran (r : Run) (q : Equalizer) (ys : List Float) (ms : List ℕ) : Type 0 where
   pub left : q ≡ r .equalizer
-  pub out : ys ≡ floatsOf (r .outs)
-  pub marks : ms ≡ marksOf (r .outs)
+  pub out : ys ≡ written symbolParts (r .outs)
+  pub marks : ms ≡ written markByte (r .outs)

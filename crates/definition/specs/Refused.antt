@@ -200,7 +200,8 @@ setterRows =
     ∷ frequencyIs (broken .state) nan 0
     ∷ []
 
--- ---- one sample whole: a blank whose sum is not finite either; a forward window of zeros behind which the feedback window holds something
+-- ---- one sample whole: a blank whose sum is not finite either; a finite sample whose sum is not; a forward window of zeros behind which the
+-- feedback window holds something; and the first sample of a call that the Rust was run on
 
 unfoldable huge : Equalizer
 huge = around good (eight 0x7f00_0000) (eight 0x7f00_0000)
@@ -208,9 +209,21 @@ huge = around good (eight 0x7f00_0000) (eight 0x7f00_0000)
 unfoldable silent : Equalizer
 silent = around (recordOf (settings 1 5) Decision 5 0x3c07_6966 0x3967_1b0a 0) (eight 0x3f00_0000) (replicate 6 zero32 ++ replicate 2 (f32 0x3e80_0000))
 
+unfoldable smeared : Equalizer
+smeared =
+    around (withRunning (recordOf (settings 0 1000) Cma 5 0x3c07_6966 0x3967_1b0a 0) Cma 5 (f32 0x3f00_0000) 0 zero32)
+    (f32 0xbe42_233f ∷ f32 0xbe19_b3e6 ∷ f32 0x3e10_2540 ∷ f32 0x3e8a_fb71 ∷ f32 0x3eb2_7070 ∷ f32 0x3d80_6ca2 ∷ [])
+    (f32 0x3ec0_bae8 ∷ f32 0xbebd_93f3 ∷ f32 0x3e85_1487 ∷ f32 0x3da1_b003 ∷ f32 0xbf2b_f3e4 ∷ f32 0x3d66_67b5 ∷ [])
+
+-- one sample: what is written to the output and the marks
+unfoldable writes : Equalizer → Float → Float → List ℕ → ℕ → Bool
+writes q re im symbol mark = let a = equalizeDef q (re ∷ im ∷ []) two (marks 1) in same (bitsOf (a .out)) symbol && same (a .marks) (mark ∷ [])
+
 unfoldable sampleRows : List Bool
 sampleRows =
-    same (equalizeDef huge (nan ∷ zero32 ∷ []) two (marks 1) .marks) (1 ∷ [])
+    writes huge nan zero32 (0 ∷ 0 ∷ []) 1
+    ∷ writes huge (f32 0x7f00_0000) zero32 (0 ∷ 0 ∷ []) 2
+    ∷ writes smeared (f32 0xbef4_bb25) (f32 0xbd6e_eea6) (0x3ea4_59fa ∷ 0x3e34_eb34 ∷ []) 0
     ∷ (let a = equalizeDef silent (zero32 ∷ zero32 ∷ []) two (marks 1) in same (bitsOf (a .equalizer .weights)) (replicate 8 0x3f00_0000) && same (bitsOf (a .equalizer .window)) (replicate 8 0))
     ∷ []
 
@@ -281,5 +294,5 @@ callRows =
 
 -- the table, whole
 unfoldable pub refusalsPass : Bool
-unfolding newRefused madeBits newServed resetIs callRefused callReplies setterIs frequencyIs recordOf good around eight start startWith weightsWith windowWith longer four six two marks broken restarted all newRows resetRows setterRows huge silent sampleRows callRows
+unfolding newRefused madeBits newServed resetIs callRefused callReplies setterIs frequencyIs recordOf good around eight start startWith weightsWith windowWith longer four six two marks broken restarted all newRows resetRows setterRows huge silent smeared writes sampleRows callRows
 refusalsPass = all newRows && all resetRows && all setterRows && all sampleRows && all callRows

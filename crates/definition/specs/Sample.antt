@@ -14,6 +14,8 @@ use Rattle.types.specs.declared.EqMode.the-variants.{Cma, Decision}
 use Rattle.types.specs.declared.EqConstellation.{EqConstellation}
 use Rattle.types.specs.declared.EqParams.{EqParams}
 use Rattle.types.specs.declared.EqualizeState.{EqualizeState}
+use Rattle.types.specs.declared.Mark.{Mark}
+use Rattle.types.specs.declared.Mark.the-variants.{Heard, Blank, Spilled}
 use Rattle.types.specs.declared.Update.{Update}
 use Rattle.types.specs.declared.Update.the-variants.{Step, Hold}
 use Rattle.types.specs.Bits.{zero32, one32}
@@ -44,16 +46,6 @@ forward q = allTaps q - feedback q
 -- `cma_symbols` for never to switch to Decision
 abbrev pub neverSwitch : ℕ
 neverSwitch = 4294967295
-
--- the marks: 0 heard; 1 blank, the sample is not finite; 2 spilled, the sample is finite and the filter sum y is not
-abbrev pub heardMark : ℕ
-heardMark = 0
-
-abbrev pub blankMark : ℕ
-blankMark = 1
-
-abbrev pub spilledMark : ℕ
-spilledMark = 2
 
 -- the record with other running numbers: mode, count, mean error, phase, freq
 abbrev pub withRunning : EqualizeState → EqMode → ℕ → Float → ℕ → Float → EqualizeState
@@ -130,7 +122,7 @@ phaseAfter s freq pd = (s .phase + phaseStep (freq +f s .kp *f pd)) % 2 ^ 32
 
 -- ---- Steps 4 to 7 put together, for a finite sample and a finite y, by document 01's letters
 
-pub record Heard : Type 0 where
+pub record Letters : Type 0 where
   -- c and s, of the phase
   pub turn : CosSin
   -- the output
@@ -147,7 +139,7 @@ pub record Heard : Type 0 where
   pub g : C32
   pub pd : Float
 
-unfoldable pub hear : EqualizeState → ℕ → ℕ → List Float → C32 → Heard
+unfoldable pub hear : EqualizeState → ℕ → ℕ → List Float → C32 → Letters
 hear s n f h y =
     let t = cosSin (s .phase) in
     let z = derotated y t in
@@ -172,28 +164,28 @@ pub record Stage : Type 0 where
   pub weights : List Float
   pub out : C32
   pub fed : C32
-  pub mark : ℕ
+  pub mark : Mark
 
 unfoldable pub tracked : EqualizeState → Float → Float → EqualizeState
 tracked s pe pd = withRunning s (s .mode) (s .count) (mseAfter (s .mse) pe) (phaseAfter s (freqAfter s pd) pd) (freqAfter s pd)
 
 -- If F is 0, nothing adapts and (0, 0) is fed back.
-unfoldable pub heardAs : EqualizeState → List Float → ℕ → ℕ → List Float → Heard → Stage
+unfoldable pub heardAs : EqualizeState → List Float → ℕ → ℕ → List Float → Letters → Stage
 heardAs s w n f h v = record {
   state = tracked s (v .pe) (v .pd);
   weights = adapted (updateOf (v .F) (v .g)) n f w h;
   out = v .z;
   fed = cond (live (v .F)) (fedOf (s .mode) (v .d) (v .turn)) zeroC;
-  mark = heardMark;
+  mark = Heard;
 }
 
 -- ---- Step 3. If x or y is not finite: output (0, 0), fed-back sample (0, 0), go to 8.
-abbrev pub passedBy : EqualizeState → List Float → ℕ → Stage
+abbrev pub passedBy : EqualizeState → List Float → Mark → Stage
 passedBy s w mark = record { state = s; weights = w; out = zeroC; fed = zeroC; mark = mark }
 
 unfoldable pub step3 : EqualizeState → List Float → ℕ → ℕ → C32 → List Float → C32 → Stage
 step3 s w n f x h y =
-    cond (finiteC x) (cond (finiteC y) (heardAs s w n f h (hear s n f h y)) (passedBy s w spilledMark)) (passedBy s w blankMark)
+    cond (finiteC x) (cond (finiteC y) (heardAs s w n f h (hear s n f h y)) (passedBy s w Spilled)) (passedBy s w Blank)
 
 -- ---- Step 8. Shift the fed-back sample into the feedback window.
 unfoldable pub fedIn : ℕ → ℕ → C32 → List Float → List Float
@@ -216,7 +208,7 @@ advance s = advanceIn (s .mode) s
 
 pub record Out : Type 0 where
   pub symbol : C32
-  pub mark : ℕ
+  pub mark : Mark
 
 pub record Did : Type 0 where
   pub equalizer : Equalizer

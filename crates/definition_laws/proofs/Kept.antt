@@ -24,7 +24,9 @@ use Rattle.definition.specs.Slices.{complexLength, whole, every, shifted, zeros
 use Rattle.definition.specs.Phase.{cosSin}
 use Rattle.definition.specs.Points.{decide}
 use Rattle.definition.specs.Turns.{derotated, rotated}
-use Rattle.definition.specs.Sample.{Equalizer, Did, Out, Stage, Heard, allTaps, feedback, forward, neverSwitch, sanitized, step1, step2, fedOf, resetUnless, adapted, updateOf, live, phaseError, freqAfter, tracked, hear, heardAs, passedBy, blankMark, spilledMark, step3, fedIn, withMode, advanceIn, advance, step8, sampleDef}
+use Rattle.types.specs.declared.Mark.{Mark}
+use Rattle.types.specs.declared.Mark.the-variants.{Blank, Spilled}
+use Rattle.definition.specs.Sample.{Equalizer, Did, Out, Stage, Letters, allTaps, feedback, forward, neverSwitch, sanitized, step1, step2, fedOf, resetUnless, adapted, updateOf, live, phaseError, freqAfter, tracked, hear, heardAs, passedBy, step3, fedIn, withMode, advanceIn, advance, step8, sampleDef}
 use Rattle.definition.specs.Rules.{plusZero, weightFits, freqFits, ruleR1, ruleR2, countFits, ruleR4, acceptedDef, Shape}
 use Rattle.definition.specs.Run.{Run, runDef}
 use Rattle.definition_laws.proofs.Every.{every-append, every-left, every-take, every-drop, every-set, every-replicate, every-shifted, every-tabulate, length-shifted, length-updated, length-start}
@@ -182,7 +184,7 @@ fed-finite true Cma d t f = (finite-zero, finite-zero)
 fed-finite true Decision d t f = f
 
 module _ (q : Equalizer) (a : Accepted q) where
-  passed-staged : (mark : ℕ) → Staged q (passedBy (q .state) (q .weights) mark)
+  passed-staged : (mark : Mark) → Staged q (passedBy (q .state) (q .weights) mark)
   passed-staged mark = record {
     params = refl;
     kp = refl;
@@ -226,9 +228,9 @@ module _ (q : Equalizer) (a : Accepted q) where
   unfolding step3
   staged x h y = go (finiteC x) (finiteC y)
     where
-      go : (b c : Bool) → Staged q (cond b (cond c (heardAs (q .state) (q .weights) (allTaps q) (forward q) h (hear (q .state) (allTaps q) (forward q) h y)) (passedBy (q .state) (q .weights) spilledMark)) (passedBy (q .state) (q .weights) blankMark))
-      go false c = passed-staged 1
-      go true false = passed-staged 2
+      go : (b c : Bool) → Staged q (cond b (cond c (heardAs (q .state) (q .weights) (allTaps q) (forward q) h (hear (q .state) (allTaps q) (forward q) h y)) (passedBy (q .state) (q .weights) Spilled)) (passedBy (q .state) (q .weights) Blank))
+      go false c = passed-staged Blank
+      go true false = passed-staged Spilled
       go true true = heard-staged h y
 
 -- ---- one sample

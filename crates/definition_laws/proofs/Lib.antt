@@ -11,4 +11,4 @@ pub mod Padding
 pub mod Verdicts
 pub mod Vectors
 pub mod Mapped
-pub mod Running
+pub mod Progress

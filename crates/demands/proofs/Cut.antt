@@ -10,9 +10,9 @@ use Rattle.types.specs.declared.Outcome.the-variants.{Served, Refused}
 use Rattle.definition.specs.Slices.{samplesOf}
 use Rattle.definition.specs.Sample.{Equalizer, Out}
 use Rattle.definition.specs.Rules.{rules}
-use Rattle.definition.specs.Run.{Run, ahead, runDef, floatsOf, marksOf}
+use Rattle.definition.specs.Run.{Run, ahead, runDef, written, symbolParts, markByte}
 use Rattle.definition.specs.Calls.{lengthsOf, verdictDef, Answer, answerBy, equalizeDef}
-use Rattle.definition_laws.proofs.Runs.{run-append, floats-append, marks-append}
+use Rattle.definition_laws.proofs.Runs.{run-append, written-append}
 use Rattle.demands.specs.Traces.{Path, plain, quick, joint, Call, callDef, Promised, Observed, Follow, none, next, ifServed, samples, symbols, marks, left}
 use Rattle.demands.specs.Cut.{OneRun, CallsAreOneRun, Same, AnyCut}
 
@@ -35,22 +35,22 @@ module _ (q : Equalizer) (o : Observed) (os : List Observed) where
       let a = run-append q xs (samples os) in
       let at : o .answer .equalizer ≡ runDef q xs .equalizer = ap (λ (a : Answer). a .equalizer) e in
       rw e (record {
-        symbols = ap (λ (l : List Float). floatsOf (runDef q xs .outs) ++ l) (r .symbols ∙ ap (λ (p : Equalizer). floatsOf (runDef p (samples os) .outs)) at)
-            ∙ sym (floats-append (runDef q xs .outs) (runDef (runDef q xs .equalizer) (samples os) .outs)) ∙ ap (λ (t : Run). floatsOf (t .outs)) (sym a);
-        marks = ap (λ (l : List ℕ). marksOf (runDef q xs .outs) ++ l) (r .marks ∙ ap (λ (p : Equalizer). marksOf (runDef p (samples os) .outs)) at)
-            ∙ sym (marks-append (runDef q xs .outs) (runDef (runDef q xs .equalizer) (samples os) .outs)) ∙ ap (λ (t : Run). marksOf (t .outs)) (sym a);
+        symbols = ap (λ (l : List Float). written symbolParts (runDef q xs .outs) ++ l) (r .symbols ∙ ap (λ (p : Equalizer). written symbolParts (runDef p (samples os) .outs)) at)
+            ∙ sym (written-append symbolParts (runDef q xs .outs) (runDef (runDef q xs .equalizer) (samples os) .outs)) ∙ ap (λ (t : Run). written symbolParts (t .outs)) (sym a);
+        marks = ap (λ (l : List ℕ). written markByte (runDef q xs .outs) ++ l) (r .marks ∙ ap (λ (p : Equalizer). written markByte (runDef p (samples os) .outs)) at)
+            ∙ sym (written-append markByte (runDef q xs .outs) (runDef (runDef q xs .equalizer) (samples os) .outs)) ∙ ap (λ (t : Run). written markByte (t .outs)) (sym a);
         left = ap (λ (p : Equalizer). left p os) (sym at) ∙ r .left ∙ ap (λ (p : Equalizer). runDef p (samples os) .equalizer) at ∙ ap (λ (t : Run). t .equalizer) (sym a);
       })
   first (Refused x) e r =
       let at : o .answer .equalizer ≡ q = ap (λ (a : Answer). a .equalizer) e in
       rw e (record {
-        symbols = r .symbols ∙ ap (λ (p : Equalizer). floatsOf (runDef p (samples os) .outs)) at;
-        marks = r .marks ∙ ap (λ (p : Equalizer). marksOf (runDef p (samples os) .outs)) at;
+        symbols = r .symbols ∙ ap (λ (p : Equalizer). written symbolParts (runDef p (samples os) .outs)) at;
+        marks = r .marks ∙ ap (λ (p : Equalizer). written markByte (runDef p (samples os) .outs)) at;
         left = ap (λ (p : Equalizer). left p os) (sym at) ∙ r .left ∙ ap (λ (p : Equalizer). runDef p (samples os) .equalizer) at;
       })
 
 pub calls-are-one-run : CallsAreOneRun
-unfolding samples symbols marks left runDef floatsOf marksOf
+unfolding samples symbols marks left runDef written
 calls-are-one-run q [] none = record { symbols = refl; marks = refl; left = refl }
 calls-are-one-run q (o ∷ os) (next b l p f) =
     first q o os (verdictDef (rules q) (lengthsOf q (o .call .input) (o .call .output) (o .call .marks))) (kept (o .call .path) q (o .call) (o .answer) p ∙ by-verdict q (o .call))
@@ -61,8 +61,8 @@ any-cut q os ps f g e =
     let a = calls-are-one-run q os f in
     let b = calls-are-one-run q ps g in
     record {
-      symbols = a .symbols ∙ ap (λ (xs : List C32). floatsOf (runDef q xs .outs)) e ∙ sym (b .symbols);
-      marks = a .marks ∙ ap (λ (xs : List C32). marksOf (runDef q xs .outs)) e ∙ sym (b .marks);
+      symbols = a .symbols ∙ ap (λ (xs : List C32). written symbolParts (runDef q xs .outs)) e ∙ sym (b .symbols);
+      marks = a .marks ∙ ap (λ (xs : List C32). written markByte (runDef q xs .outs)) e ∙ sym (b .marks);
       left = a .left ∙ ap (λ (xs : List C32). runDef q xs .equalizer) e ∙ sym (b .left);
     }
 

@@ -11,14 +11,16 @@ use lib.Dec.{T}
 use lib.Ieee.{Float}
 use Rattle.types.specs.declared.C32.{C32}
 use Rattle.types.specs.declared.EqualizeState.{EqualizeState}
+use Rattle.types.specs.declared.Mark.the-variants.{Blank}
 use Rattle.types.specs.Bits.{zero32}
+use Rattle.types.specs.Numbers.{markNumber}
 use Rattle.definition.specs.Floats.{finiteC}
 use Rattle.definition.specs.Slices.{zeros}
-use Rattle.definition.specs.Sample.{Equalizer, Out, allTaps, feedback, forward, blankMark, withMode}
+use Rattle.definition.specs.Sample.{Equalizer, Out, allTaps, feedback, forward, withMode}
 use Rattle.definition.specs.Rules.{acceptedDef}
-use Rattle.definition.specs.Run.{Run, ahead, runDef, floatsOf, marksOf}
+use Rattle.definition.specs.Run.{Run, ahead, runDef, written, symbolParts, markByte}
 use Rattle.definition_laws.proofs.Accept.{accepted-parts, shape}
-use Rattle.definition_laws.proofs.Runs.{run-append, floats-append, marks-append}
+use Rattle.definition_laws.proofs.Runs.{run-append, written-append}
 use Rattle.definition_laws.proofs.Verdicts.{both, and-true}
 use Rattle.demands.specs.Traces.{Observed, Follow, samples, symbols, marks, left}
 use Rattle.demands.specs.Cut.{OneRun, Same}
@@ -41,15 +43,15 @@ first-blanks : (k n : ℕ) (xs : List C32) → k ≤ n → Blanks n xs → Blank
 first-blanks k n xs h b = record { many = length-take-le k xs (omega (arith, b .many)); each = blanks-take k xs (b .each) }
 
 -- the symbols and marks of n blanks
-zero-floats : (n : ℕ) → floatsOf (replicate n blankOut) ≡ zeros (2 * n)
-unfolding floatsOf
+zero-floats : (n : ℕ) → written symbolParts (replicate n blankOut) ≡ zeros (2 * n)
+unfolding written
 zero-floats zero = refl
 zero-floats (suc n) = let e : 2 * suc n ≡ suc (suc (2 * n)) = omega arith in rw e (ap (λ (l : List Float). zero32 ∷ zero32 ∷ l) (zero-floats n))
 
-blank-marks : (n : ℕ) → marksOf (replicate n blankOut) ≡ replicate n blankMark
-unfolding marksOf
+blank-marks : (n : ℕ) → written markByte (replicate n blankOut) ≡ replicate n (markNumber Blank)
+unfolding written
 blank-marks zero = refl
-blank-marks (suc n) = ap (λ (l : List ℕ). blankMark ∷ l) (blank-marks n)
+blank-marks (suc n) = ap (λ (l : List ℕ). markNumber Blank ∷ l) (blank-marks n)
 
 -- ---- one list
 
@@ -64,15 +66,15 @@ module _ (p : Equalizer) (os : List Observed) (n : ℕ) (bs stream : List C32) (
   one-run : OneRun p os
   one-run = calls-are-one-run p os f
 
-  symbols-are : symbols os ≡ zeros (2 * n) ++ floatsOf (runDef (runDef p bs .equalizer) stream .outs)
+  symbols-are : symbols os ≡ zeros (2 * n) ++ written symbolParts (runDef (runDef p bs .equalizer) stream .outs)
   symbols-are =
-      one-run .symbols ∙ ap (λ (r : Run). floatsOf (r .outs)) whole ∙ floats-append (replicate n blankOut) (runDef (runDef p bs .equalizer) stream .outs)
-      ∙ ap (λ (l : List Float). l ++ floatsOf (runDef (runDef p bs .equalizer) stream .outs)) (zero-floats n)
+      one-run .symbols ∙ ap (λ (r : Run). written symbolParts (r .outs)) whole ∙ written-append symbolParts (replicate n blankOut) (runDef (runDef p bs .equalizer) stream .outs)
+      ∙ ap (λ (l : List Float). l ++ written symbolParts (runDef (runDef p bs .equalizer) stream .outs)) (zero-floats n)
 
-  marks-are : marks os ≡ replicate n blankMark ++ marksOf (runDef (runDef p bs .equalizer) stream .outs)
+  marks-are : marks os ≡ replicate n (markNumber Blank) ++ written markByte (runDef (runDef p bs .equalizer) stream .outs)
   marks-are =
-      one-run .marks ∙ ap (λ (r : Run). marksOf (r .outs)) whole ∙ marks-append (replicate n blankOut) (runDef (runDef p bs .equalizer) stream .outs)
-      ∙ ap (λ (l : List ℕ). l ++ marksOf (runDef (runDef p bs .equalizer) stream .outs)) (blank-marks n)
+      one-run .marks ∙ ap (λ (r : Run). written markByte (r .outs)) whole ∙ written-append markByte (replicate n blankOut) (runDef (runDef p bs .equalizer) stream .outs)
+      ∙ ap (λ (l : List ℕ). l ++ written markByte (runDef (runDef p bs .equalizer) stream .outs)) (blank-marks n)
 
   cleared : runDef p bs .equalizer .window ≡ zeros (length (p .window))
   cleared = after .after .window ∙ clear-claim p n acc enough
@@ -86,7 +88,7 @@ module _ (p : Equalizer) (os : List Observed) (n : ℕ) (bs stream : List C32) (
   dropped = record {
     run = one-run;
     first-symbols = ap (take (2 * n)) symbols-are ∙ take-at (zeros (2 * n)) _ (2 * n) (length-replicate (2 * n) _);
-    first-marks = ap (take n) marks-are ∙ take-at (replicate n blankMark) _ n (length-replicate n _);
+    first-marks = ap (take n) marks-are ∙ take-at (replicate n (markNumber Blank)) _ n (length-replicate n _);
     each = λ k h. blanks-claim p k (take k bs) acc (first-blanks k n bs h b);
     between = at-end;
     clear = cleared;
@@ -126,8 +128,8 @@ module _ (p q : Equalizer) (os ps : List Observed) (n : ℕ) (bs es stream : Lis
       ∙ ap (λ (r : Equalizer). ahead (replicate n blankOut) (runDef r stream)) met
       ∙ sym (whole q ps n es stream (d .accepted-q) (d .follow-q) (d .blanks-q) enough-q (d .samples-q)) in
       record {
-        symbols = x .symbols ∙ ap (λ (t : Run). floatsOf (t .outs)) r ∙ sym (y .symbols);
-        marks = x .marks ∙ ap (λ (t : Run). marksOf (t .outs)) r ∙ sym (y .marks);
+        symbols = x .symbols ∙ ap (λ (t : Run). written symbolParts (t .outs)) r ∙ sym (y .symbols);
+        marks = x .marks ∙ ap (λ (t : Run). written markByte (t .outs)) r ∙ sym (y .marks);
         left = x .left ∙ ap (λ (t : Run). t .equalizer) r ∙ sym (y .left);
       }
 

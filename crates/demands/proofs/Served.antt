@@ -13,21 +13,22 @@ use Rattle.types.specs.declared.C32.{C32}
 use Rattle.types.specs.declared.Error.{Error}
 use Rattle.types.specs.declared.Error.the-variants.{Odd, Record, Output, Marks}
 use Rattle.types.specs.declared.Outcome.{Outcome}
+use Rattle.types.specs.Numbers.{markNumber}
 use Rattle.types.specs.declared.Outcome.the-variants.{Served, Refused}
 use Rattle.definition.specs.Refusals.{Test, test, firstOf}
 use Rattle.definition.specs.Floats.{zeroC, finiteC}
 use Rattle.definition.specs.Slices.{whole, samplesOf}
 use Rattle.definition.specs.Sample.{Equalizer, Did, allTaps, feedback, forward, step1, step2, step3, step8, sampleDef}
 use Rattle.definition.specs.Rules.{rules, acceptedDef}
-use Rattle.definition.specs.Run.{Run, runDef, floatsOf, marksOf}
+use Rattle.definition.specs.Run.{Run, runDef, written, markByte}
 use Rattle.definition.specs.Calls.{even, lengthsOf, equalizeTests, verdictDef, Answer, answerBy, equalizeDef}
 use Rattle.definition_laws.proofs.Parts.{is-true}
 use Rattle.definition_laws.proofs.Accept.{accepted-parts, accepted-whole}
 use Rattle.definition_laws.proofs.Kept.{run-accepted}
 use Rattle.definition_laws.proofs.Exits.{stage-mark}
-use Rattle.definition_laws.proofs.Runs.{run-outs, floats-length, marks-length, samples-length}
+use Rattle.definition_laws.proofs.Runs.{run-outs, symbols-length, marks-length, samples-length}
 use Rattle.definition_laws.proofs.Verdicts.{both, and-true, passes, refused-not, served-fits}
-use Rattle.demands.specs.Demand1.{ServedCall, RefusedCall, Demand1, lengthsVerdict, ByLengths, markOf, EveryMark}
+use Rattle.demands.specs.Demand1.{ServedCall, RefusedCall, Demand1, lengthsVerdict, ByLengths, markGiven, EveryMark}
 
 -- an accepted equalizer stays accepted over a block
 pub run-fine : (q : Equalizer) (xs : List C32) → acceptedDef q ≡ true → acceptedDef (runDef q xs .equalizer) ≡ true
@@ -45,7 +46,7 @@ by-verdict q xs ys ms Served e =
     inl (record {
       outcome = refl;
       accepted = run-fine q (samplesOf xs) (f .accepted);
-      symbols = floats-length outs ∙ ap (λ (k : ℕ). 2 * k) n ∙ twice-half (length xs) (f .even-in);
+      symbols = symbols-length outs ∙ ap (λ (k : ℕ). 2 * k) n ∙ twice-half (length xs) (f .even-in);
       marks = marks-length outs ∙ n;
     })
 by-verdict q xs ys ms (Refused r) e = inr (record { error = r; outcome = refl; reply = refl; equalizer = refl; out = refl; marks = refl })
@@ -78,12 +79,12 @@ by-lengths q xs ys ms a =
 
 -- ---- the mark of each sample
 
-sample-mark : (q : Equalizer) (x : C32) → sampleDef q x .out .mark ≡ markOf q x
+sample-mark : (q : Equalizer) (x : C32) → sampleDef q x .out .mark ≡ markGiven q x
 unfolding sampleDef step8
 sample-mark q x = stage-mark (q .state) (q .weights) (allTaps q) (forward q) x (step1 (forward q) x (q .window)) _
 
 pub every-mark : EveryMark
-unfolding runDef marksOf
+unfolding runDef written
 every-mark q [] i h = absurd (not-suc-le-zero h)
-every-mark q (x ∷ xs) zero h = sample-mark q x
+every-mark q (x ∷ xs) zero h = ap markNumber (sample-mark q x)
 every-mark q (x ∷ xs) (suc i) h = every-mark (sampleDef q x .equalizer) xs i (le-of-suc-le-suc h)

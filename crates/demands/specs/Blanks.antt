@@ -10,9 +10,10 @@ use Rattle.types.specs.declared.C32.{C32}
 use Rattle.types.specs.declared.EqMode.{EqMode}
 use Rattle.types.specs.declared.EqMode.the-variants.{Cma, Decision}
 use Rattle.types.specs.declared.EqualizeState.{EqualizeState}
+use Rattle.types.specs.declared.Mark.the-variants.{Blank}
 use Rattle.definition.specs.Floats.{zeroC, finiteC}
 use Rattle.definition.specs.Slices.{zeros}
-use Rattle.definition.specs.Sample.{Equalizer, Out, feedback, forward, neverSwitch, blankMark, withMode}
+use Rattle.definition.specs.Sample.{Equalizer, Out, feedback, forward, neverSwitch, withMode}
 use Rattle.definition.specs.Rules.{acceptedDef}
 use Rattle.definition.specs.Run.{Run, runDef}
 
@@ -26,7 +27,7 @@ pub record Blanks (n : ℕ) (xs : List C32) : Type 0 where
 
 -- zero, and the mark blank
 abbrev pub blankOut : Out
-blankOut = record { symbol = zeroC; mark = blankMark }
+blankOut = record { symbol = zeroC; mark = Blank }
 
 -- count after k blanks: the smaller of its start plus k and `cma_symbols`, or 0 where `cma_symbols` is 4,294,967,295
 abbrev pub countAfter : EqualizeState → ℕ → ℕ

@@ -3,13 +3,13 @@ use Prim.Native.Nat.{ℕ}
 use mathlib.Core.Path.{_≡_}
 use mathlib.Core.List.{List}
 use Rattle.definition.specs.Sample.{Equalizer}
-use Rattle.definition.specs.Run.{runDef, floatsOf, marksOf}
+use Rattle.definition.specs.Run.{runDef, written, symbolParts, markByte}
 use Rattle.demands.specs.Traces.{Observed, Follow, samples, symbols, marks, left}
 
 -- a list of calls from q on, whichever paths serve them, as one run
 pub record OneRun (q : Equalizer) (os : List Observed) : Type 0 where
-  pub symbols : symbols os ≡ floatsOf (runDef q (samples os) .outs)
-  pub marks : marks os ≡ marksOf (runDef q (samples os) .outs)
+  pub symbols : symbols os ≡ written symbolParts (runDef q (samples os) .outs)
+  pub marks : marks os ≡ written markByte (runDef q (samples os) .outs)
   pub left : left q os ≡ runDef q (samples os) .equalizer
 
 abbrev pub CallsAreOneRun : Type 0

@@ -18,12 +18,14 @@ use Rattle.types.specs.declared.Fresh.{Fresh}
 use Rattle.types.specs.declared.Fresh.the-variants.{Made, NotMade}
 use Rattle.types.specs.declared.Outcome.{Outcome}
 use Rattle.types.specs.declared.Outcome.the-variants.{Served, Refused}
-use Rattle.types.specs.Numbers.{errorNumber}
+use Rattle.types.specs.declared.Mark.{Mark}
+use Rattle.types.specs.declared.Mark.the-variants.{Heard, Blank, Spilled}
+use Rattle.types.specs.Numbers.{errorNumber, markNumber}
 use Rattle.definition.specs.Refusals.{errorValues, test, firstOf}
 use Rattle.definition.specs.Floats.{zeroC, finiteC}
-use Rattle.definition.specs.Sample.{Equalizer, allTaps, forward, step1, step2, heardMark, blankMark, spilledMark, withRunning}
+use Rattle.definition.specs.Sample.{Equalizer, allTaps, forward, step1, step2, withRunning}
 use Rattle.definition.specs.Rules.{acceptedDef}
-use Rattle.definition.specs.Run.{runDef, marksOf}
+use Rattle.definition.specs.Run.{runDef, written, markByte}
 use Rattle.definition.specs.Calls.{even, Answer, equalizeDef, newDef, resetDef, withParams, withMus, setMuCmaDef, setMuDdDef, heldFreq, setFrequencyDef}
 
 -- served: one symbol and one mark per sample, and what is left is accepted
@@ -57,14 +59,14 @@ lengthsVerdict xs ys ms =
 abbrev pub ByLengths : Type 0
 ByLengths = (q : Equalizer) (xs ys : List Float) (ms : List ℕ) → acceptedDef q ≡ true → equalizeDef q xs ys ms .outcome ≡ lengthsVerdict xs ys ms
 
--- The mark of sample i: 1 where the sample is not finite, 2 where it is and the filter sum y is not, else 0; y is formed from what the i samples
--- before have left.
-abbrev pub markOf : Equalizer → C32 → ℕ
-markOf q x = cond (finiteC x) (cond (finiteC (step2 (allTaps q) (q .weights) (step1 (forward q) x (q .window)))) heardMark spilledMark) blankMark
+-- The mark of sample i: blank where the sample is not finite, spilled where it is and the filter sum y is not, else heard; y is formed from what the
+-- i samples before have left.
+abbrev pub markGiven : Equalizer → C32 → Mark
+markGiven q x = cond (finiteC x) (cond (finiteC (step2 (allTaps q) (q .weights) (step1 (forward q) x (q .window)))) Heard Spilled) Blank
 
 abbrev pub EveryMark : Type 0
 EveryMark =
-    (q : Equalizer) (xs : List C32) (i : ℕ) → i < length xs → getD (marksOf (runDef q xs .outs)) i 0 ≡ markOf (runDef q (take i xs) .equalizer) (getD xs i zeroC)
+    (q : Equalizer) (xs : List C32) (i : ℕ) → i < length xs → getD (written markByte (runDef q xs .outs)) i 0 ≡ markNumber (markGiven (runDef q (take i xs) .equalizer) (getD xs i zeroC))
 
 -- `new`, `reset` and the setters: what a served call leaves is accepted, or stays accepted, and a refused one leaves all as it came; a setter moves
 -- its one setting, and set_frequency the frequency alone.

@@ -6,8 +6,10 @@ use mathlib.Core.List.{List, _++_}
 use lib.ListN.{length, take, replicate}
 use lib.Ieee.{Float}
 use Rattle.types.specs.declared.C32.{C32}
+use Rattle.types.specs.declared.Mark.the-variants.{Blank}
+use Rattle.types.specs.Numbers.{markNumber}
 use Rattle.definition.specs.Slices.{zeros}
-use Rattle.definition.specs.Sample.{Equalizer, feedback, forward, blankMark}
+use Rattle.definition.specs.Sample.{Equalizer, feedback, forward}
 use Rattle.definition.specs.Rules.{acceptedDef}
 use Rattle.definition.specs.Run.{runDef}
 use Rattle.demands.specs.Traces.{Observed, Follow, samples, symbols, marks, left}
@@ -40,7 +42,7 @@ pub record Dropped (p : Equalizer) (os : List Observed) (n : ℕ) (bs stream : L
   pub run : OneRun p os
   -- "each of these blanks gives zero and the mark blank"
   pub first-symbols : take (2 * n) (symbols os) ≡ zeros (2 * n)
-  pub first-marks : take n (marks os) ≡ replicate n blankMark
+  pub first-marks : take n (marks os) ≡ replicate n (markNumber Blank)
   -- "and moves only windows, mode and count": after the first k of the blanks, inside a call too
   pub each : (k : ℕ) → k ≤ n → BlankRun p k (runDef p (take k bs))
   -- and wherever a call ends: what the calls before have left, where their samples are the first k blanks

@@ -12,7 +12,8 @@ use Rattle.types.specs.declared.Update.{Update}
 use Rattle.types.specs.declared.Update.the-variants.{Hold}
 use Rattle.definition.specs.Floats.{norm, finiteC}
 use Rattle.definition.specs.Slices.{power}
-use Rattle.definition.specs.Sample.{Equalizer, Did, Stage, forward, feedback, step1, step2, step3, step8, sampleDef, adapted, hear, heardAs, passedBy, spilledMark, blankMark, updateOf}
+use Rattle.types.specs.declared.Mark.the-variants.{Blank, Spilled}
+use Rattle.definition.specs.Sample.{Equalizer, Did, Stage, forward, feedback, step1, step2, step3, step8, sampleDef, adapted, hear, heardAs, passedBy, updateOf}
 use Rattle.definition_laws.proofs.Accept.{Accepted}
 use Rattle.definition_laws.proofs.Kept.{Staged, staged}
 use Rattle.lanes.specs.Arrays.{Arrays, arrays}
@@ -84,7 +85,7 @@ unfoldable pub updateIn : EqualizeState → ℕ → ℕ → C32 → List Float �
 updateIn s n f x h y = cond (finiteC x) (cond (finiteC y) (updateOf (hear s n f h y .F) (hear s n f h y .g)) Hold) Hold
 
 update-ways : (s : EqualizeState) (w : List Float) (n f : ℕ) (h : List Float) (v : Stage) (u : Update) (b c : Bool) → v .weights ≡ adapted u n f w h
-    → cond b (cond c v (passedBy s w spilledMark)) (passedBy s w blankMark) .weights ≡ adapted (cond b (cond c u Hold) Hold) n f w h
+    → cond b (cond c v (passedBy s w Spilled)) (passedBy s w Blank) .weights ≡ adapted (cond b (cond c u Hold) Hold) n f w h
 unfolding adapted
 update-ways s w n f h v u true true e = e
 update-ways s w n f h v u true false e = refl

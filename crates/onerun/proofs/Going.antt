@@ -8,6 +8,7 @@ use native.Mathlib.Decide.{decLt}
 use lib.ListN.{length, getD, set, length-set}
 use lib.Ieee.{Float, nan}
 use Rattle.types.specs.declared.EqualizeState.{EqualizeState}
+use Rattle.types.specs.Numbers.{markNumber}
 use Rattle.definition.specs.Floats.{complex}
 use Rattle.definition.specs.Slices.{reAt, imAt}
 use Rattle.definition.specs.Packed.{equalizer}
@@ -21,17 +22,18 @@ use Rattle.lanes.proofs.Holding.{window-is}
 use Rattle.lanes.proofs.Clocks.{clock-none, clock-next}
 use Rattle.steps.specs.declared.Track.{Track}
 use Rattle.onerun.specs.declared.Shape.{Shape}
-use Rattle.onerun.specs.declared.Sampled.{Sampled}
-use Rattle.onerun.specs.Taken.{Lanes, Front, withTrack, Faced, Samples}
+use Rattle.steps.specs.declared.Sampled.{Sampled}
+use Rattle.onerun.specs.Taken.{Lanes, Front, Faced, Samples}
+use Rattle.steps.specs.Step.{withTrack, did}
 use Rattle.onerun.specs.Passing.{Begun, Runs}
 use Rattle.record.proofs.Advance.{count-below}
-use Rattle.onerun.proofs.Folding.{Running, running-none, running-more, running-all}
+use Rattle.definition_laws.proofs.Progress.{Progress, progress-none, progress-more, progress-all}
 
 -- after k samples from q₀: weights and window, how far the block has come, what the arrays hold, and the mode
 pub record Gone (n m : ℕ) (s₀ : EqualizeState) (q₀ : Equalizer) (xs : List Float) (a : Arrays) (ys : List Float) (ms : List ℕ) (s : EqualizeState) (k : ℕ) : Type 0 where
   pub weights : List Float
   pub window : List Float
-  pub running : Running q₀ xs (equalizer s weights window) ys ms k
+  pub done : Progress q₀ xs (equalizer s weights window) ys ms k (2 * k)
   pub holds : Holds n m (64 - k) a (equalizer s weights window)
   pub clock : k ≤ 63 → Clock s₀ k s
 
@@ -64,7 +66,7 @@ going-none s g limit a ps ss xs ys ms l c t i o = record {
   gone = λ n w h ok b. record {
     weights = w;
     window = h;
-    running = running-none (equalizer s w h) xs ys ms ok;
+    done = progress-none (equalizer s w h) xs ys ms ok;
     holds = b .holds;
     clock = λ z. clock-none s (λ e f. count-below s e f c);
   };
@@ -108,10 +110,10 @@ module _ (s₀ : EqualizeState) (g : Shape) (limit : List Float) (a₀ : Arrays)
         size-is = λ u. size-at s₀ s ps ss (64 - length xs / 2) k (b .sizes) (z .clock (omega (arith, o .most))) (omega (arith, o .most)) (omega (arith, o .input, o .most)) (decLt k (cmaLeft s₀));
       }
 
-  pub going-more : (r : Sampled) (a′ : Arrays) → k < length ms
+  pub going-more : (r : Sampled) (b : ℕ) (a′ : Arrays) → k < length ms → b ≡ markNumber (r .mark)
       → Samples s g (63 - k) (complex (reAt xs k) (imAt xs k)) (getD ps (63 - k) nan) (getD ss (63 - k) nan) limit a a′ r
-      → Going s₀ g limit a₀ ps ss xs ys₀ ms₀ a′ (set (set ys (2 * k) (r .out .re)) (2 * k + 1) (r .out .im)) (set ms k (r .mark)) (r .state) (k + 1)
-  going-more r a′ l p = record {
+      → Going s₀ g limit a₀ ps ss xs ys₀ ms₀ a′ (set (set ys (2 * k) (r .out .re)) (2 * k + 1) (r .out .im)) (set ms k b) (r .state) (k + 1)
+  going-more r b a′ l v p = record {
     lanes = p .lanes;
     front = record { re = λ i b. p .front .re i b ∙ o .front .re i b; im = λ i b. p .front .im i b ∙ o .front .im i b };
     long = λ y. p .long (o .long y);
@@ -122,14 +124,15 @@ module _ (s₀ : EqualizeState) (g : Shape) (limit : List Float) (a₀ : Arrays)
     output = simp length-set (o .output);
     long-ys = simp length-set (o .long-ys);
     long-ms = simp length-set (o .long-ms);
-    gone = λ n w h ok b.
-        let z = o .gone n w h ok b in
-        let d = p .done n (z .weights) (z .window) (z .running .accepted) (faced n w h b z l) in
+    gone = λ n w h ok u.
+        let z = o .gone n w h ok u in
+        let d = p .done n (z .weights) (z .window) (z .done .accepted) (faced n w h u z l) in
         let e : 64 - (k + 1) ≡ 63 - k = omega arith in
+        let t : 2 * (k + 1) ≡ 2 * k + 2 = omega arith in
         record {
           weights = d .weights;
           window = d .window;
-          running = running-more (equalizer s₀ w h) xs (equalizer s (z .weights) (z .window)) ys ms k (z .running) (o .input) (o .output) r (d .weights) (d .window) l (d .is);
+          done = rw t (progress-more (equalizer s₀ w h) xs (equalizer s (z .weights) (z .window)) ys ms k (2 * k) (z .done) (complex (reAt xs k) (imAt xs k)) (did r (d .weights) (d .window)) b l (omega (arith, o .output)) (omega (arith, o .input)) refl (d .is) v);
           holds = rw e (d .holds);
           clock = λ y. ticked s₀ s (r .state) (p .track) k (p .ticks) (z .clock (omega arith)) y;
         };
@@ -147,7 +150,7 @@ module _ (s₀ : EqualizeState) (g : Shape) (limit : List Float) (a₀ : Arrays)
         record {
           weights = z .weights;
           window = z .window;
-          ran = running-all (equalizer s₀ w h) xs (equalizer s (z .weights) (z .window)) ys ms k (z .running) (o .input) (o .output) l;
+          ran = progress-all (equalizer s₀ w h) xs (equalizer s (z .weights) (z .window)) ys ms k (2 * k) (z .done) l (omega (arith, o .output)) (omega (arith, o .input));
           holds = rw e (z .holds);
         };
   }

@@ -9,19 +9,19 @@ use lib.Ieee.{Float, nan}
 use Rattle.types.specs.declared.C32.{C32}
 use Rattle.types.specs.declared.EqualizeState.{EqualizeState}
 use Rattle.types.specs.declared.Update.{Update}
-use Rattle.definition.specs.Floats.{zeroC, finiteC}
 use Rattle.definition.specs.Slices.{power}
 use Rattle.definition.specs.Packed.{equalizer}
-use Rattle.definition.specs.Sample.{Equalizer, Did, Stage, withRunning, heardMark, blankMark, spilledMark, muOf, stepSize, adapted, step1, step2, step3, advance, sampleDef}
+use Rattle.definition.specs.Sample.{Equalizer, muOf, stepSize, adapted, step1, step2, step3, advance, sampleDef}
+use Rattle.definition.specs.Sample as sample
 use Rattle.definition.specs.Rules.{acceptedDef, ruleR4}
 use Rattle.lanes.specs.Arrays.{Arrays, Long}
 use Rattle.lanes.specs.Holds.{Holds, Put, Limits, Shaped}
 use Rattle.lanes.specs.Adapts.{Adapts}
 use Rattle.steps.specs.declared.Track.{Track}
-use Rattle.steps.specs.declared.Stepped.{Stepped}
+use Rattle.steps.specs.declared.Stage.{Stage}
+use Rattle.steps.specs.declared.Sampled.{Sampled}
+use Rattle.steps.specs.Step.{withTrack, stage, did}
 use Rattle.onerun.specs.declared.Shape.{Shape}
-use Rattle.onerun.specs.declared.Heard.{Heard}
-use Rattle.onerun.specs.declared.Sampled.{Sampled}
 
 -- what the loops over the lanes ask of a shape
 pub record Fits (g : Shape) : Type 0 where
@@ -61,23 +61,11 @@ pub record Setting (g : Shape) (n : ℕ) (limit : List Float) : Type 0 where
   pub limits : Limits limit 0 0 n
   pub limits′ : Limits limit 72 (n % 8) (g .m)
 
-unfoldable pub markOf : C32 → C32 → ℕ
-markOf x y = cond (finiteC x) (cond (finiteC y) heardMark spilledMark) blankMark
-
 unfoldable pub sizeOf : EqualizeState → ℕ → Float → Float → Float
 sizeOf s m ahead P = cond (eqb m 0) ahead (stepSize (muOf (s .mode) (s .params)) P)
 
-abbrev pub heardOf : Stepped → Heard
-heardOf r = record { track = r .track; z = r .z; fed = r .fed; mark = heardMark }
-
-abbrev pub unheardOf : EqualizeState → ℕ → Heard
-unheardOf s mark = record { track = record { mse = s .mse; freq = s .freq; phase = s .phase }; z = zeroC; fed = zeroC; mark = mark }
-
-abbrev pub withTrack : EqualizeState → Track → EqualizeState
-withTrack s t = withRunning s (s .mode) (s .count) (t .mse) (t .phase) (t .freq)
-
 -- what steps 2 to 7 come to, of n + m taps
-unfoldable pub stageOf : EqualizeState → List Float → List Float → ℕ → ℕ → C32 → Stage
+unfoldable pub stageOf : EqualizeState → List Float → List Float → ℕ → ℕ → C32 → sample.Stage
 stageOf s w h n m x = step3 s w (n + m) n x (step1 n x h) (step2 (n + m) w (step1 n x h))
 
 -- before a sample: the arrays hold record, weights and window, x has been put in, its forward power is known, and its step size without feedback
@@ -88,22 +76,15 @@ pub record Faced (s : EqualizeState) (g : Shape) (n at : ℕ) (x : C32) (forward
   pub power-is : forward ≡ power (step1 n x h) n
   pub size-is : g .m ≡ 0 → ahead ≡ stepSize (muOf (s .mode) (s .params)) forward
 
--- after steps 2 to 7: the update u and the numbers r are those of the stage t
-pub record Took (s : EqualizeState) (n m : ℕ) (x : C32) (w h : List Float) (u : Update) (r : Heard) (t : Stage) : Type 0 where
-  pub weights : t .weights ≡ adapted u (n + m) n w (step1 n x h)
-  pub state : t .state ≡ withTrack s (r .track)
-  pub out : t .out ≡ r .z
-  pub fed : t .fed ≡ r .fed
-  pub mark : t .mark ≡ r .mark
+-- after steps 2 to 7: r, with the weights after the update u, is what those steps come to
+abbrev pub Took : EqualizeState → ℕ → ℕ → C32 → List Float → List Float → Update → Stage → Type 0
+Took s n m x w h u r = stage s r (adapted u (n + m) n w (step1 n x h)) ≡ stageOf s w h n m x
 
-pub record Takes (s : EqualizeState) (g : Shape) (at : ℕ) (x : C32) (forward ahead : Float) (limit : List Float) (a : Arrays) (wr′ wi′ : List Float) (r : Heard) : Type 0 where
+pub record Takes (s : EqualizeState) (g : Shape) (at : ℕ) (x : C32) (forward ahead : Float) (limit : List Float) (a : Arrays) (wr′ wi′ : List Float) (r : Stage) : Type 0 where
   pub lanes : Lanes wr′ wi′
   pub update : Update
   pub adapts : Adapts update (a .wr) (a .wi) limit (a .xr) (a .xi) at (g .quads) (at + 153 - g .front) (g .mquads) (g .centre) wr′ wi′
-  pub took : (n : ℕ) (w h : List Float) → Faced s g n at x forward ahead limit a w h → Took s n (g .m) x w h update r (stageOf s w h n (g .m) x)
-
-abbrev pub did : Sampled → List Float → List Float → Did
-did r w h = record { equalizer = equalizer (r .state) w h; out = record { symbol = r .out; mark = r .mark } }
+  pub took : (n : ℕ) (w h : List Float) → Faced s g n at x forward ahead limit a w h → Took s n (g .m) x w h update r
 
 -- after step 8: weights and window, what the sample gave, and what the arrays hold now
 pub record Done (n m at : ℕ) (x : C32) (q : Equalizer) (a : Arrays) (r : Sampled) : Type 0 where

@@ -1,7 +1,9 @@
 // The samples of a run on the arrays: w the weights, x the window, q its squares; r real, i imaginary. Feedback lanes from 72 on, their window from 144 on.
-use steps::Track;
+use steps::Sampled;
+use steps::Stage;
 use types::C32;
 use types::EqualizeState;
+use types::Mark;
 ghost use mathlib.Core.Path.{_≡_};
 ghost use mathlib.Core.Bool.{true};
 ghost use Prim.Native.Nat.{_+_, _-_, _*_, _<_, _≤_};
@@ -11,8 +13,8 @@ ghost use Rattle.definition.specs.Floats.{finiteC};
 ghost use Rattle.definition.specs.Rules.{ruleR4};
 ghost use Rattle.lanes.specs.Arrays.{arrays};
 ghost use Rattle.lanes.specs.Adapts.{Adapts};
-ghost use Rattle.steps.specs.Step.{stepOf};
-ghost use Rattle.onerun.specs.Taken.{Fits, Lanes, markOf, sizeOf, heardOf, unheardOf, Takes, Samples};
+ghost use Rattle.steps.specs.Step.{stepOf, heardOf};
+ghost use Rattle.onerun.specs.Taken.{Fits, Lanes, sizeOf, Takes, Samples};
 ghost use Rattle.onerun.specs.Passing.{Runs};
 
 // The numbers of a call: the lanes of the sums and of the steps, forward and feedback, the padding in front of the feedback lanes, the feedback taps
@@ -27,38 +29,10 @@ pub struct Shape {
     pub centre: usize,
 }
 
-// What a sample leaves beside the weights.
-pub struct Heard {
-    pub track: Track,
-    pub z: C32,
-    pub fed: C32,
-    pub mark: u8,
-}
-
-// What a sample gives.
-pub struct Sampled {
-    pub state: EqualizeState,
-    pub out: C32,
-    pub mark: u8,
-}
-
 fn finite_c(v: C32) -> bool
     ensures { λ r. ⌜ r ≡ finiteC v ⌝ }
 {
     numeric::is_finite(v.re) & numeric::is_finite(v.im)
-}
-
-// 0 heard, 1 blank, 2 spilled.
-fn mark_of(x: C32, y: C32) -> u8
-    ensures { λ r. ⌜ r ≡ markOf x y ⌝ }
-{
-    if !finite_c(x) {
-        return 1;
-    }
-    if !finite_c(y) {
-        return 2;
-    }
-    0
 }
 
 // The step size of a sample: made ahead without feedback.
@@ -85,7 +59,7 @@ fn hear(
     limit: &[f32; 144],
     xr: &[f32; 288],
     xi: &[f32; 288],
-) -> Heard
+) -> Stage
     requires { ⌜ now t ≡ cosBits ⌝ }
     requires { ⌜ (at ≤ 63) × Fits g ⌝ }
     requires { ⌜ Lanes (now wr) (now wi) ⌝ }
@@ -97,10 +71,7 @@ fn hear(
 {
     let bt = at + 153 - g.front;
     let r = steps::follow(s, t, y, forward, size);
-    let track = r.track;
     let u = r.update;
-    let z = r.z;
-    let fed = r.fed;
     lanes::adapt::adapt(
         u,
         wr,
@@ -114,29 +85,7 @@ fn hear(
         g.mquads,
         g.centre,
     );
-    Heard {
-        track,
-        z,
-        fed,
-        mark: 0,
-    }
-}
-
-// A sample that is not heard.
-fn unheard(s: EqualizeState, mark: u8) -> Heard
-    ensures { λ r. ⌜ r ≡ unheardOf s mark ⌝ }
-{
-    let track = Track {
-        mse: s.mse,
-        freq: s.freq,
-        phase: s.phase,
-    };
-    Heard {
-        track,
-        z: C32::ZERO,
-        fed: C32::ZERO,
-        mark,
-    }
+    steps::heard(r)
 }
 
 // The sample x, which stands at `at` in the forward window: steps 2 to 7.
@@ -154,7 +103,7 @@ fn take(
     xr: &[f32; 288],
     xi: &[f32; 288],
     q: &[f32; 288],
-) -> Heard
+) -> Stage
     requires { ⌜ now t ≡ cosBits ⌝ }
     requires { ⌜ (at ≤ 63) × Fits g ⌝ }
     requires { ⌜ Lanes (now wr) (now wi) ⌝ }
@@ -176,9 +125,11 @@ fn take(
         forward,
     );
     let y = f.y;
-    let mark = mark_of(x, y);
-    if mark != 0 {
-        return unheard(s, mark);
+    if !finite_c(x) {
+        return steps::unheard(s, Mark::Blank);
+    }
+    if !finite_c(y) {
+        return steps::unheard(s, Mark::Spilled);
     }
     let size = step_size(s, g.m, ahead, f.power);
     hear(s, t, g, at, y, forward, size, wr, wi, limit, xr, xi)
@@ -211,14 +162,11 @@ fn sample(
     let r = take(s, t, g, at, x, forward, ahead, wr, wi, limit, xr, xi, q);
     let fed = r.fed;
     let track = r.track;
-    let out = r.z;
+    let out = r.out;
+    let mark = r.mark;
     lanes::run::feed(xr, xi, q, at + 152, fed);
     let state = record::mode::advance(steps::with_track(s, track));
-    Sampled {
-        state,
-        out,
-        mark: r.mark,
-    }
+    Sampled { state, out, mark }
 }
 
 // The samples of a run, at most 64, which stand in the forward window: the first at 63.
@@ -276,7 +224,8 @@ pub fn run(
         let out = r.out;
         output[j] = out.re;
         output[j + 1] = out.im;
-        marks[k] = r.mark;
+        let mark = r.mark;
+        marks[k] = types::mark_number(mark);
         let next = r.state;
         s = next;
         k += 1;

@@ -12,6 +12,7 @@ use lib.Ieee.{Float}
 use Rattle.types.specs.declared.C32.{C32}
 use Rattle.types.specs.declared.CosSin.{CosSin}
 use Rattle.types.specs.declared.EqualizeState.{EqualizeState}
+use Rattle.types.specs.declared.Mark.the-variants.{Blank, Spilled}
 use Rattle.types.specs.declared.Update.{Update}
 use Rattle.definition.specs.Floats.{zeroC, finiteC, norm, minusC, scaledC}
 use Rattle.definition.specs.Slices.{complexLength, shifted, filterSum, dotComplex, power}
@@ -25,22 +26,20 @@ use Rattle.definition.specs.Rules.{ruleR4, acceptedDef}
 use Rattle.definition_laws.proofs.Every.{length-shifted}
 use Rattle.definition_laws.proofs.Parts.{is-true}
 use Rattle.definition_laws.proofs.Accept.{Accepted, accepted-parts, shape}
-use Rattle.plain.specs.Pieces.{Sized, stage, did}
+use Rattle.plain.specs.Pieces.{Sized}
 use Rattle.steps.specs.declared.Stepped.{Stepped}
 use Rattle.steps.specs.declared.Track.{Track}
-use Rattle.steps.specs.Step.{trackOf, updateIf, stepAt, stepWith}
-use Rattle.plain.specs.declared.Stage.{Stage}
-use Rattle.plain.specs.declared.Sampled.{Sampled}
+use Rattle.steps.specs.declared.Stage.{Stage}
+use Rattle.steps.specs.Step.{trackOf, updateIf, stepAt, stepWith, withTrack, heardOf, unheardOf, stage}
 
 -- ---- steps 4 to 7
 
 module _ (s : EqualizeState) (w h : List Float) (y : C32) (n f : ℕ) where
-  pub heard-by : (t : CosSin) (F P size : Float) (r : Stepped) (v : List Float) (x : EqualizeState)
+  pub heard-by : (t : CosSin) (F P size : Float) (r : Stepped) (v : List Float) (k : Stage)
       → F ≡ power h f → P ≡ power h n → size ≡ stepSize (muOf (s .mode) (s .params)) P → t ≡ cosSin (s .phase) → r ≡ stepWith s t y F size
-      → v ≡ adapted (r .update) n f w h → x ≡ withRunning s (s .mode) (s .count) (r .track .mse) (r .track .phase) (r .track .freq)
-      → _≡_ {A = sample.Stage} (record { state = x; weights = v; out = r .z; fed = r .fed; mark = 0 }) (heardAs s w n f h (hear s n f h y))
+      → v ≡ adapted (r .update) n f w h → k ≡ heardOf r → stage s k v ≡ heardAs s w n f h (hear s n f h y)
   unfolding stepWith stepAt trackOf updateIf heardAs hear tracked updateOf
-  heard-by t F P size r v x p1 p2 p3 p4 p5 p6 p7 = rw (p7, p6, p5, p4, p3, p2, p1)
+  heard-by t F P size r v k p1 p2 p3 p4 p5 p6 p7 = rw (p7, p6, p5, p4, p3, p2, p1)
 
 -- ---- steps 2 and 3
 
@@ -49,17 +48,17 @@ unfolding dotComplex step2
 dot-is n w h a b = let e : min (length h / 2) (length w / 2) ≡ n = omega arith in rw e
 
 module _ (s : EqualizeState) (w h : List Float) (x : C32) (n f : ℕ) (g : Sized s w h n f) (b : Bool) (p : b ≡ finiteC x) where
-  pub took-blank : b ≡ false → (r : Stage) → (r .state ≡ s) × ((r .out ≡ zeroC) × ((r .fed ≡ zeroC) × (r .mark ≡ 1))) → stage r w ≡ step3 s w n f x h (step2 n w h)
+  pub took-blank : b ≡ false → (r : Stage) → r ≡ unheardOf s Blank → stage s r w ≡ step3 s w n f x h (step2 n w h)
   unfolding step3
-  took-blank e r k = rw (← p, e, k .0, k .1 .0, k .1 .1 .0, k .1 .1 .1)
+  took-blank e r k = rw (← p, e, k)
 
   module _ (e : b ≡ true) (y : C32) (q : y ≡ dotComplex h w) (c : Bool) (o : c ≡ finiteC y) where
     sum-is : y ≡ step2 n w h
     sum-is = q ∙ dot-is n w h (g .weights) (g .window)
 
-    pub took-spilled : c ≡ false → (r : Stage) → (r .state ≡ s) × ((r .out ≡ zeroC) × ((r .fed ≡ zeroC) × (r .mark ≡ 2))) → stage r w ≡ step3 s w n f x h (step2 n w h)
+    pub took-spilled : c ≡ false → (r : Stage) → r ≡ unheardOf s Spilled → stage s r w ≡ step3 s w n f x h (step2 n w h)
     unfolding step3
-    took-spilled i r k = rw (← p, e, ← sum-is, ← o, i, k .0, k .1 .0, k .1 .1 .0, k .1 .1 .1)
+    took-spilled i r k = rw (← p, e, ← sum-is, ← o, i, k)
 
     pub took-heard : c ≡ true → (k : sample.Stage) → k ≡ heardAs s w n f h (hear s n f h y) → k ≡ step3 s w n f x h (step2 n w h)
     unfolding step3
@@ -75,17 +74,13 @@ feed-is f m v h part e d =
 
 -- ---- the whole sample
 
-r4-step3 : (s : EqualizeState) (w : List Float) (n f : ℕ) (x : C32) (h : List Float) (y : C32) → ruleR4 (step3 s w n f x h y .state) ≡ ruleR4 s
-unfolding step3 heardAs tracked ruleR4
-r4-step3 s w n f x h y = go (finiteC x) (finiteC y)
-  where
-    go : (b c : Bool) → ruleR4 (cond {A = sample.Stage} b (cond c (heardAs s w n f h (hear s n f h y)) (passedBy s w 2)) (passedBy s w 1) .state) ≡ ruleR4 s
-    go true true = refl
-    go true false = refl
-    go false c = refl
+-- R4 goes by mode and count alone
+with-track-r4 : (s : EqualizeState) (t : Track) → ruleR4 s ≡ true → ruleR4 (withTrack s t) ≡ true
+unfolding ruleR4
+with-track-r4 s t e = e
 
-pub stage-r4 : (s : EqualizeState) (w h v : List Float) (x y : C32) (n f : ℕ) (r : Stage) → ruleR4 s ≡ true → stage r v ≡ step3 s w n f x h y → ruleR4 (r .state) ≡ true
-stage-r4 s w h v x y n f r a e = ap (λ (k : sample.Stage). ruleR4 (k .state)) e ∙ r4-step3 s w n f x h y ∙ a
+pub tracked-r4 : (s k : EqualizeState) (t : Track) → ruleR4 s ≡ true → k ≡ withTrack s t → ruleR4 k ≡ true
+tracked-r4 s k t e d = rw d (with-track-r4 s t e)
 
 pub sized-again : (s : EqualizeState) (w h k : List Float) (n f : ℕ) → Sized s w h n f → (v : C32) → k ≡ shifted f v h → Sized s w k n f
 sized-again s w h k n f z v e =
@@ -99,17 +94,17 @@ feed-fits s w h k n f v z e =
     (rw e (omega (arith, l, z .sum, z .window)), omega (arith, z .most, z .back))
 
 module _ (s : EqualizeState) (w h : List Float) (x : C32) (n f : ℕ) (z : Sized s w h n f) where
-  pub sample-is : (st : C32) (h1 v h2 : List Float) (r : Stage) (nx : EqualizeState) → st ≡ sanitized x → h1 ≡ shifted f st h
-      → stage r v ≡ step3 s w n f x h1 (step2 n w h1) → h2 ≡ take (2 * f) h1 ++ shifted (s .params .«feedback_taps») (r .fed) (drop (2 * f) h1)
-      → nx ≡ advance (r .state)
+  pub sample-is : (st : C32) (h1 v h2 : List Float) (r : Stage) (k nx : EqualizeState) → st ≡ sanitized x → h1 ≡ shifted f st h
+      → stage s r v ≡ step3 s w n f x h1 (step2 n w h1) → h2 ≡ take (2 * f) h1 ++ shifted (s .params .«feedback_taps») (r .fed) (drop (2 * f) h1)
+      → k ≡ withTrack s (r .track) → nx ≡ advance k
       → _≡_ {A = Did} (record { equalizer = equalizer nx v h2; out = record { symbol = r .out; mark = r .mark } }) (sampleDef (equalizer s w h) x)
   unfolding sampleDef
-  sample-is st h1 v h2 r nx a b e d g =
+  sample-is st h1 v h2 r k nx a b e d j g =
       let m = s .params .«feedback_taps» in
       let N : length w / 2 ≡ n = omega (arith, z .weights) in
       let F : length w / 2 - s .params .«feedback_taps» ≡ f = omega (arith, z .weights, z .sum) in
       let hh : h1 ≡ step1 f x h = unfold step1 in (b ∙ rw a) in
-      let A : _≡_ {A = Did} (record { equalizer = equalizer nx v h2; out = record { symbol = r .out; mark = r .mark } }) (step8 f (s .params .«feedback_taps») h1 (stage r v)) = unfold step8 fedIn in (rw (g, d)) in
+      let A : _≡_ {A = Did} (record { equalizer = equalizer nx v h2; out = record { symbol = r .out; mark = r .mark } }) (step8 f (s .params .«feedback_taps») h1 (stage s r v)) = unfold step8 fedIn in (rw (g, j, d)) in
       A ∙ ap (step8 f m h1) e ∙ ap (λ (l : List Float). step8 f m l (step3 s w n f x l (step2 n w l))) hh
       ∙ sym (rw (F, N))
 

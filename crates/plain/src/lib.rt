@@ -1,6 +1,9 @@
 // The plain path, step by step over the caller's slices: n taps in all, f of them forward, m of them feedback.
+use steps::Sampled;
+use steps::Stage;
 use types::C32;
 use types::EqualizeState;
+use types::Mark;
 
 mod slices;
 mod step;
@@ -16,27 +19,13 @@ ghost use Rattle.definition.specs.Packed.{equalizer, Shaped, Ran};
 ghost use Rattle.definition.specs.Sample.{step2, step3, hear as hearDef, heardAs, sampleDef};
 ghost use Rattle.definition.specs.Rules.{ruleR4, acceptedDef};
 ghost use Rattle.definition.specs.Run.{runDef};
-ghost use Rattle.plain.specs.Pieces.{Sized, stage, did};
-
-// What step 8 starts from.
-pub(crate) struct Stage {
-    pub(crate) state: EqualizeState,
-    pub(crate) out: C32,
-    pub(crate) fed: C32,
-    pub(crate) mark: u8,
-}
-
-// What a sample gives.
-pub(crate) struct Sampled {
-    pub(crate) state: EqualizeState,
-    pub(crate) out: C32,
-    pub(crate) mark: u8,
-}
+ghost use Rattle.steps.specs.Step.{stage, did};
+ghost use Rattle.plain.specs.Pieces.{Sized};
 
 // Steps 4 to 7: a sample whose sum y is finite. Cosine and sine come before the powers: they need not wait behind those long sums.
 fn hear(s: EqualizeState, w: &mut [f32], h: &[f32], y: C32, n: usize, f: usize) -> Stage
     requires { ⌜ Sized s (now w) (now h) n f ⌝ }
-    ensures { λ r. ⌜ stage r (now (w .exit)) ≡ heardAs s (now (w .entry)) n f (now (h .entry)) (hearDef s n f (now (h .entry)) y) ⌝ }
+    ensures { λ r. ⌜ stage s r (now (w .exit)) ≡ heardAs s (now (w .entry)) n f (now (h .entry)) (hearDef s n f (now (h .entry)) y) ⌝ }
 {
     let turn = mix::cos_sin(s.phase);
     let forward = slices::window_power(h, 0, 0.0, f);
@@ -45,41 +34,20 @@ fn hear(s: EqualizeState, w: &mut [f32], h: &[f32], y: C32, n: usize, f: usize) 
     let r = steps::step(s, turn, y, forward, size);
     let u = r.update;
     slices::update_weights(u, w, h, n, f);
-    let track = r.track;
-    let out = r.z;
-    let fed = r.fed;
-    let state = steps::with_track(s, track);
-    Stage {
-        state,
-        out,
-        fed,
-        mark: 0,
-    }
-}
-
-// A sample that is not heard.
-fn passed(state: EqualizeState, mark: u8) -> Stage
-    ensures { λ r. ⌜ (r .state ≡ state) × ((r .out ≡ zeroC) × ((r .fed ≡ zeroC) × (r .mark ≡ mark))) ⌝ }
-{
-    Stage {
-        state,
-        out: step::zero(),
-        fed: step::zero(),
-        mark,
-    }
+    steps::heard(r)
 }
 
 // Steps 2 to 7, over the shifted window.
 fn took(s: EqualizeState, w: &mut [f32], h: &[f32], x: C32, n: usize, f: usize) -> Stage
     requires { ⌜ Sized s (now w) (now h) n f ⌝ }
-    ensures { λ r. ⌜ stage r (now (w .exit)) ≡ step3 s (now (w .entry)) n f x (now (h .entry)) (step2 n (now (w .entry)) (now (h .entry))) ⌝ }
+    ensures { λ r. ⌜ stage s r (now (w .exit)) ≡ step3 s (now (w .entry)) n f x (now (h .entry)) (step2 n (now (w .entry)) (now (h .entry))) ⌝ }
 {
     if !step::finite_c(x) {
-        return passed(s, 1);
+        return steps::unheard(s, Mark::Blank);
     }
     let y = dot::dot_complex_c32(h, w);
     if !step::finite_c(y) {
-        return passed(s, 2);
+        return steps::unheard(s, Mark::Spilled);
     }
     hear(s, w, h, y, n, f)
 }
@@ -112,14 +80,11 @@ fn sample_sized(
     let m = p.feedback_taps;
     let fed = r.fed;
     feed(h, f, m, fed);
-    let next = r.state;
+    let track = r.track;
     let out = r.out;
-    let state = record::mode::advance(next);
-    Sampled {
-        state,
-        out,
-        mark: r.mark,
-    }
+    let mark = r.mark;
+    let state = record::mode::advance(steps::with_track(s, track));
+    Sampled { state, out, mark }
 }
 
 // One sample of an accepted record.
@@ -158,7 +123,8 @@ pub fn run(
         let out = r.out;
         output[k] = out.re;
         output[k + 1] = out.im;
-        marks[i] = r.mark;
+        let mark = r.mark;
+        marks[i] = types::mark_number(mark);
         let next = r.state;
         s = next;
         i += 1;

@@ -15,13 +15,14 @@ use Rattle.lanes.specs.Holds.{Holds}
 use Rattle.onerun.specs.declared.Shape.{Shape}
 use Rattle.onerun.specs.Taken.{Lanes, Setting}
 use Rattle.onerun.specs.Passing.{Room, Blocks, Calls}
-use Rattle.onerun.proofs.Folding.{Running, running-none, running-block, running-all}
+use Rattle.onerun.proofs.Folding.{progress-run}
+use Rattle.definition_laws.proofs.Progress.{Progress, progress-none, progress-all}
 
 -- after i samples from q₀, in whole runs: weights and window, how far the block has come, and what the arrays hold
 pub record Rolled (n m : ℕ) (q₀ : Equalizer) (xs : List Float) (a : Arrays) (ys : List Float) (ms : List ℕ) (s : EqualizeState) (i : ℕ) : Type 0 where
   pub weights : List Float
   pub window : List Float
-  pub running : Running q₀ xs (equalizer s weights window) ys ms i
+  pub done : Progress q₀ xs (equalizer s weights window) ys ms i (2 * i)
   pub holds : Holds n m 64 a (equalizer s weights window)
 
 pub record Rolling (s₀ : EqualizeState) (g : Shape) (n : ℕ) (limit : List Float) (a₀ : Arrays) (xs ys₀ : List Float) (ms₀ : List ℕ) (a : Arrays) (ys : List Float) (ms : List ℕ) (ps ss : List Float) (s : EqualizeState) (i : ℕ) : Type 0 where
@@ -48,7 +49,7 @@ rolling-none s g n limit a xs ys ms ps ss l k r c i o = record {
   output = o;
   long-ys = refl;
   long-ms = refl;
-  rolled = λ w h ok set hold. record { weights = w; window = h; running = running-none (equalizer s w h) xs ys ms ok; holds = hold };
+  rolled = λ w h ok set hold. record { weights = w; window = h; done = progress-none (equalizer s w h) xs ys ms ok; holds = hold };
 }
 
 module _ (s₀ : EqualizeState) (g : Shape) (n : ℕ) (limit : List Float) (a₀ : Arrays) (xs ys₀ : List Float) (ms₀ : List ℕ) (a : Arrays) (ys : List Float) (ms : List ℕ) (ps ss : List Float) (s : EqualizeState) (i : ℕ)
@@ -67,13 +68,13 @@ module _ (s₀ : EqualizeState) (g : Shape) (n : ℕ) (limit : List Float) (a₀
     long-ms = lm ∙ o .long-ms;
     rolled = λ w h ok set hold.
         let z = o .rolled w h ok set hold in
-        let v = b .blocked (z .weights) (z .window) (z .running .accepted) set (z .holds) in
+        let v = b .blocked (z .weights) (z .window) (z .done .accepted) set (z .holds) in
         let q = equalizer s (z .weights) (z .window) in
         let q′ = equalizer r (v .passed .weights) (v .passed .window) in
         record {
           weights = v .passed .weights;
           window = v .passed .window;
-          running = rw (v .out, v .marks) (running-block (equalizer s₀ w h) xs q ys ms i e (z .running) (o .input) (o .output) l k q′ (v .part) (v .part-marks) (v .passed .ran));
+          done = rw (v .out, v .marks) (progress-run (equalizer s₀ w h) xs q ys ms i e (z .done) (o .input) (o .output) l k q′ (v .part) (v .part-marks) (v .passed .ran));
           holds = v .passed .holds;
         };
   }
@@ -85,7 +86,7 @@ module _ (s₀ : EqualizeState) (g : Shape) (n : ℕ) (limit : List Float) (a₀
         record {
           weights = z .weights;
           window = z .window;
-          ran = running-all (equalizer s₀ w h) xs (equalizer s (z .weights) (z .window)) ys ms i (z .running) (o .input) (o .output) l;
+          ran = progress-all (equalizer s₀ w h) xs (equalizer s (z .weights) (z .window)) ys ms i (2 * i) (z .done) l (omega (arith, o .output)) (omega (arith, o .input));
           holds = z .holds;
         };
   }

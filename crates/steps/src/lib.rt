@@ -3,6 +3,7 @@ use types::C32;
 use types::CosSin;
 use types::EqMode;
 use types::EqualizeState;
+use types::Mark;
 use types::Update;
 ghost use mathlib.Core.Path.{_≡_};
 ghost use mathlib.Core.Bool.{cond};
@@ -11,8 +12,8 @@ ghost use Rattle.tables.specs.Table.{cosBits};
 ghost use Rattle.types.specs.Bits.{one32};
 ghost use Rattle.definition.specs.Floats.{norm, zeroC, scaledC, clipC};
 ghost use Rattle.definition.specs.Phase.{phaseStep};
-ghost use Rattle.definition.specs.Sample.{mseAfter, godardError, withRunning, phaseError, muOf, stepSize};
-ghost use Rattle.steps.specs.Step.{trackOf, aimed, updateIf, stepWith, stepOf};
+ghost use Rattle.definition.specs.Sample.{mseAfter, godardError, phaseError, muOf, stepSize};
+ghost use Rattle.steps.specs.Step.{trackOf, aimed, updateIf, stepWith, stepOf, withTrack, heardOf, unheardOf};
 
 // The running numbers that a heard sample changes.
 pub struct Track {
@@ -27,6 +28,21 @@ pub struct Stepped {
     pub z: C32,
     pub fed: C32,
     pub update: Update,
+}
+
+// What step 8 starts from, beside the weights.
+pub struct Stage {
+    pub track: Track,
+    pub out: C32,
+    pub fed: C32,
+    pub mark: Mark,
+}
+
+// What a sample gives, and the record after it.
+pub struct Sampled {
+    pub state: EqualizeState,
+    pub out: C32,
+    pub mark: Mark,
 }
 
 // The error of the mode, and the sample to feed back.
@@ -73,7 +89,7 @@ fn tracked(s: EqualizeState, z: C32, d: C32, e: C32) -> Track
 
 // The record with the running numbers t.
 pub fn with_track(s: EqualizeState, t: Track) -> EqualizeState
-    ensures { λ r. ⌜ r ≡ withRunning s (s .mode) (s .count) (t .mse) (t .phase) (t .freq) ⌝ }
+    ensures { λ r. ⌜ r ≡ withTrack s t ⌝ }
 {
     EqualizeState {
         mse: t.mse,
@@ -177,5 +193,38 @@ pub fn size_of(s: EqualizeState, power: f32) -> f32
     match m {
         EqMode::Cma => p.mu_cma / (power + 0.000001),
         EqMode::Decision => p.mu_dd / (power + 0.000001),
+    }
+}
+
+// A sample whose steps 4 to 7 gave r.
+pub fn heard(r: Stepped) -> Stage
+    ensures { λ t. ⌜ t ≡ heardOf r ⌝ }
+{
+    let track = r.track;
+    let out = r.z;
+    let fed = r.fed;
+    Stage {
+        track,
+        out,
+        fed,
+        mark: Mark::Heard,
+    }
+}
+
+// A sample that is not heard: zero is given and fed back, and no number moves.
+pub fn unheard(s: EqualizeState, mark: Mark) -> Stage
+    ensures { λ t. ⌜ t ≡ unheardOf s mark ⌝ }
+{
+    let track = Track {
+        mse: s.mse,
+        freq: s.freq,
+        phase: s.phase,
+    };
+    let zero = C32::ZERO;
+    Stage {
+        track,
+        out: zero,
+        fed: zero,
+        mark,
     }
 }

@@ -16,7 +16,9 @@ abbrev μ-loop : tie.MeasureT-loop
     length marks - k
 
 loop-holds : tie.Need-loop-holds Inv-loop μ-loop
-loop-holds c = going-none _ _ _ _ _ _ _ _ _ (c .before .before .before .pre .1 .1 .1 .0) (c .before .before .before .pre .1 .1 .1 .1) (c .before .before .before .pre .1 .0 .0) (c .before .before .before .pre .1 .0 .1 .0) (c .before .before .before .pre .1 .0 .1 .1)
+loop-holds c =
+    let at-start = c .before .before .before in
+    going-none _ _ _ _ _ _ _ _ _ (at-start .pre .1 .1 .1 .0) (at-start .pre .1 .1 .1 .1) (at-start .pre .1 .0 .0) (at-start .pre .1 .0 .1 .0) (at-start .pre .1 .0 .1 .1)
 
 sub-at : tie.Need-sub-at Inv-loop μ-loop
 sub-at c = search needs
@@ -52,34 +54,66 @@ element-copy-out-sample-2 : tie.Need-element-copy-out-sample-2 Inv-loop μ-loop
 element-copy-out-sample-2 c = search needs
 
 sample-requires : tie.Need-sample-requires Inv-loop μ-loop
-sample-requires c κs = (c .before .before .before .before .before .before .before .before .before .before .before .before .before .before .pre .0, ((omega arith, c .before .before .before .before .before .before .before .before .before .before .before .before .before .before .pre .1 .1 .0), (c .before .before .before .before .before .before .before .before .before .before .loop .inv .lanes, c .before .before .before .before .before .before .before .before .before .before .loop .inv .counts)))
+sample-requires c κs =
+    let at-loop = c .before .before .before .before .before .before .before .before .before .before in
+    let at-start = c .before .before .before .before .before .before .before .before .before .before .before .before .before .before in
+    (at-start .pre .0, ((omega arith, at-start .pre .1 .1 .0), (at-loop .loop .inv .lanes, at-loop .loop .inv .counts)))
 
 mul-output : tie.Need-mul-output Inv-loop μ-loop
-mul-output c = omega (arith, c .before .before .before .before .before .before .before .before .before .before .before .before .loop .inv .here, c .before .before .before .before .before .before .before .before .before .before .before .before .loop .inv .most, c .before .before .before .before .before .before .before .before .before .before .before .before .loop .inv .input, c .before .before .before .before .before .before .before .before .before .before .before .before .loop .inv .output, c .before .before .before .before .before .before .before .before .before .before .before .loop-test .taken)
+mul-output c =
+    let in-loop = c .before .before .before .before .before .before .before .before .before .before .before in
+    let at-loop = c .before .before .before .before .before .before .before .before .before .before .before .before in
+    omega (arith, at-loop .loop .inv .here, at-loop .loop .inv .most, at-loop .loop .inv .input, at-loop .loop .inv .output, in-loop .loop-test .taken)
 
 slice-write-output : tie.Need-slice-write-output Inv-loop μ-loop
-slice-write-output c = omega (arith, c .before .before .before .before .before .before .before .before .before .before .before .before .loop .inv .here, c .before .before .before .before .before .before .before .before .before .before .before .before .loop .inv .most, c .before .before .before .before .before .before .before .before .before .before .before .before .loop .inv .input, c .before .before .before .before .before .before .before .before .before .before .before .before .loop .inv .output, c .before .before .before .before .before .before .before .before .before .before .before .loop-test .taken)
+slice-write-output c =
+    let in-loop = c .before .before .before .before .before .before .before .before .before .before .before in
+    let at-loop = c .before .before .before .before .before .before .before .before .before .before .before .before in
+    omega (arith, at-loop .loop .inv .here, at-loop .loop .inv .most, at-loop .loop .inv .input, at-loop .loop .inv .output, in-loop .loop-test .taken)
 
 add-output : tie.Need-add-output Inv-loop μ-loop
-add-output c = omega (arith, c .before .before .before .before .before .before .before .before .before .before .before .before .loop .inv .here, c .before .before .before .before .before .before .before .before .before .before .before .before .loop .inv .most, c .before .before .before .before .before .before .before .before .before .before .before .before .loop .inv .input, c .before .before .before .before .before .before .before .before .before .before .before .before .loop .inv .output, c .before .before .before .before .before .before .before .before .before .before .before .loop-test .taken)
+add-output c =
+    let in-loop = c .before .before .before .before .before .before .before .before .before .before .before in
+    let at-loop = c .before .before .before .before .before .before .before .before .before .before .before .before in
+    omega (arith, at-loop .loop .inv .here, at-loop .loop .inv .most, at-loop .loop .inv .input, at-loop .loop .inv .output, in-loop .loop-test .taken)
 
 mul-output-2 : tie.Need-mul-output-2 Inv-loop μ-loop
-mul-output-2 c = omega (arith, c .before .before .before .before .before .before .before .before .before .before .before .before .loop .inv .here, c .before .before .before .before .before .before .before .before .before .before .before .before .loop .inv .most, c .before .before .before .before .before .before .before .before .before .before .before .before .loop .inv .input, c .before .before .before .before .before .before .before .before .before .before .before .before .loop .inv .output, c .before .before .before .before .before .before .before .before .before .before .before .loop-test .taken)
+mul-output-2 c =
+    let in-loop = c .before .before .before .before .before .before .before .before .before .before .before in
+    let at-loop = c .before .before .before .before .before .before .before .before .before .before .before .before in
+    omega (arith, at-loop .loop .inv .here, at-loop .loop .inv .most, at-loop .loop .inv .input, at-loop .loop .inv .output, in-loop .loop-test .taken)
 
 slice-write-output-2 : tie.Need-slice-write-output-2 Inv-loop μ-loop
-slice-write-output-2 c = simp length-set (omega (arith, c .before .before .before .before .before .before .before .before .before .before .before .before .loop .inv .here, c .before .before .before .before .before .before .before .before .before .before .before .before .loop .inv .most, c .before .before .before .before .before .before .before .before .before .before .before .before .loop .inv .input, c .before .before .before .before .before .before .before .before .before .before .before .before .loop .inv .output, c .before .before .before .before .before .before .before .before .before .before .before .loop-test .taken))
+slice-write-output-2 c =
+    let in-loop = c .before .before .before .before .before .before .before .before .before .before .before in
+    let at-loop = c .before .before .before .before .before .before .before .before .before .before .before .before in
+    simp length-set (omega (arith, at-loop .loop .inv .here, at-loop .loop .inv .most, at-loop .loop .inv .input, at-loop .loop .inv .output, in-loop .loop-test .taken))
+
+mark-number-requires : tie.Need-mark-number-requires Inv-loop μ-loop
+mark-number-requires c κs = search needs
 
 slice-write-marks : tie.Need-slice-write-marks Inv-loop μ-loop
 slice-write-marks c = search needs
 
 add-k : tie.Need-add-k Inv-loop μ-loop
-add-k c = omega (arith, c .before .before .before .before .before .before .before .before .before .before .before .before .before .loop .inv .here, c .before .before .before .before .before .before .before .before .before .before .before .before .before .loop .inv .most, c .before .before .before .before .before .before .before .before .before .before .before .before .before .loop .inv .input, c .before .before .before .before .before .before .before .before .before .before .before .before .before .loop .inv .output, c .before .before .before .before .before .before .before .before .before .before .before .before .loop-test .taken)
+add-k c =
+    let in-loop = c .before .before .before .before .before .before .before .before .before .before .before .before .before in
+    let at-loop = c .before .before .before .before .before .before .before .before .before .before .before .before .before .before in
+    omega (arith, at-loop .loop .inv .here, at-loop .loop .inv .most, at-loop .loop .inv .input, at-loop .loop .inv .output, in-loop .loop-test .taken)
 
 loop-less : tie.Need-loop-less Inv-loop μ-loop
-loop-less c = simp length-set (omega (arith, c .before .before .before .before .before .before .before .before .before .before .before .before .before .loop .inv .here, c .before .before .before .before .before .before .before .before .before .before .before .before .before .loop .inv .most, c .before .before .before .before .before .before .before .before .before .before .before .before .before .loop .inv .input, c .before .before .before .before .before .before .before .before .before .before .before .before .before .loop .inv .output, c .before .before .before .before .before .before .before .before .before .before .before .before .loop-test .taken))
+loop-less c =
+    let in-loop = c .before .before .before .before .before .before .before .before .before .before .before .before .before in
+    let at-loop = c .before .before .before .before .before .before .before .before .before .before .before .before .before .before in
+    simp length-set (omega (arith, at-loop .loop .inv .here, at-loop .loop .inv .most, at-loop .loop .inv .input, at-loop .loop .inv .output, in-loop .loop-test .taken))
 
 loop-again : tie.Need-loop-again Inv-loop μ-loop
-loop-again c = going-more _ _ _ _ _ _ _ _ _ _ _ _ _ _ (c .before .before .before .before .before .before .before .before .before .before .before .before .before .loop .inv) _ _ (c .before .before .before .before .before .before .before .before .before .before .before .before .loop-test .taken) (c .before .before .sample .ensures)
+loop-again c =
+    let at-mark = c .before in
+    let at-sample = c .before .before .before in
+    let in-loop = c .before .before .before .before .before .before .before .before .before .before .before .before .before in
+    let at-loop = c .before .before .before .before .before .before .before .before .before .before .before .before .before .before in
+    going-more _ _ _ _ _ _ _ _ _ _ _ _ _ _ (at-loop .loop .inv) _ _ _ (in-loop .loop-test .taken) (at-mark .mark-number .ensures) (at-sample .sample .ensures)
 
 same-length : tie.Need-same-length Inv-loop μ-loop
 same-length c = search needs
@@ -114,6 +148,7 @@ run-spec =
     add-output
     mul-output-2
     slice-write-output-2
+    mark-number-requires
     slice-write-marks
     add-k
     loop-less

@@ -1,20 +1,42 @@
-use Rattle.onerun.proofs.Taking.{take-unheard, take-heard}
-use native.Mathlib.Omega.{arith}
+-- `take` is steps 2 to 7 of a sample on the arrays: blank, spilled or heard, by the two tests.
+use Rattle.onerun.proofs.Taking.{take-blank, take-spilled, take-heard}
 use borrow.Author.Needs.{needs}
+use borrow.Author.Tests.{not-true, not-false}
 use Rattle.onerun.proofs.take.Statement.{statement}
 use Rattle.onerun.proofs.take.Tie as tie
 
 measure-requires : tie.Need-measure-requires
 measure-requires c κs = search needs
 
-mark-of-requires : tie.Need-mark-of-requires
-mark-of-requires c κs = search needs
+finite-c-requires : tie.Need-finite-c-requires
+finite-c-requires c κs = search needs
 
 unheard-requires : tie.Need-unheard-requires
 unheard-requires c κs = search needs
 
 returns : tie.Need-returns
-returns c = take-unheard _ _ _ _ _ _ _ _ _ _ (c .before .before .before .before .measure .ensures) _ (c .before .before .mark-of .ensures) _ (c .before .before .before .before .before .before .before .pre .1 .1) (c .before .if1 .taken) (c .unheard .ensures)
+returns c =
+    let at-test = c .before in
+    let at-finite = c .before .before in
+    let at-measure = c .before .before .before .before in
+    let at-start = c .before .before .before .before .before .before .before in
+    take-blank _ _ _ _ _ _ _ _ _ _ (at-measure .measure .ensures) _ _ (at-finite .finite-c .ensures) (not-true _ (at-test .if1 .taken)) (at-start .pre .1 .1) (c .unheard .ensures)
+
+finite-c-requires-2 : tie.Need-finite-c-requires-2
+finite-c-requires-2 c κs = search needs
+
+unheard-requires-2 : tie.Need-unheard-requires-2
+unheard-requires-2 c κs = search needs
+
+returns-2 : tie.Need-returns-2
+returns-2 c =
+    let at-second = c .before in
+    let at-finite2 = c .before .before in
+    let at-first = c .before .before .before in
+    let at-finite = c .before .before .before .before in
+    let at-measure = c .before .before .before .before .before .before in
+    let at-start = c .before .before .before .before .before .before .before .before .before in
+    take-spilled _ _ _ _ _ _ _ _ _ _ (at-measure .measure .ensures) _ _ (at-finite .finite-c .ensures) (not-false _ (at-first .if1 .left)) _ (at-finite2 .finite-c2 .ensures) (not-true _ (at-second .if2 .taken)) (at-start .pre .1 .1) (c .unheard2 .ensures)
 
 step-size-requires : tie.Need-step-size-requires
 step-size-requires c κs = search needs
@@ -22,17 +44,27 @@ step-size-requires c κs = search needs
 hear-requires : tie.Need-hear-requires
 hear-requires c κs = search needs
 
-returns-2 : tie.Need-returns-2
-returns-2 c = take-heard _ _ _ _ _ _ _ _ _ _ (c .before .before .before .before .before .before .before .measure .ensures) _ (c .before .before .before .before .before .mark-of .ensures) _ (c .before .before .before .before .if1 .left) _ _ _ (c .hear .ensures .1 .1) (c .before .before .before .step-size .ensures) (c .hear .ensures .0) (c .hear .ensures .1 .0)
+returns-3 : tie.Need-returns-3
+returns-3 c =
+    let at-size = c .before .before .before in
+    let at-second = c .before .before .before .before in
+    let at-finite2 = c .before .before .before .before .before in
+    let at-first = c .before .before .before .before .before .before in
+    let at-finite = c .before .before .before .before .before .before .before in
+    let at-measure = c .before .before .before .before .before .before .before .before .before in
+    take-heard _ _ _ _ _ _ _ _ _ _ (at-measure .measure .ensures) _ _ (at-finite .finite-c .ensures) (not-false _ (at-first .if1 .left)) _ (at-finite2 .finite-c2 .ensures) (not-false _ (at-second .if2 .left)) _ _ _ (c .hear .ensures .1 .1) (at-size .step-size .ensures) (c .hear .ensures .0) (c .hear .ensures .1 .0)
 
 pub take-spec : {M : Type 1} → statement M
 take-spec =
     tie.close
     (tie.spec
     measure-requires
-    mark-of-requires
+    finite-c-requires
     unheard-requires
     returns
+    finite-c-requires-2
+    unheard-requires-2
+    returns-2
     step-size-requires
     hear-requires
-    returns-2)
+    returns-3)

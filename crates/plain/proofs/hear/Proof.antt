@@ -23,15 +23,15 @@ step-requires c κs = search needs
 update-weights-requires : tie.Need-update-weights-requires
 update-weights-requires c κs = search needs
 
-with-track-requires : tie.Need-with-track-requires
-with-track-requires c κs = search needs
+heard-requires : tie.Need-heard-requires
+heard-requires c κs = search needs
 
 same-length : tie.Need-same-length
 same-length c = search needs
 
 returns : tie.Need-returns
 returns c =
-    heard-by _ _ _ _ _ _ _ _ _ _ _ _ _ (c .before .before .before .before .before .before .before .before .before .before .before .window-power .ensures) (c .before .before .before .before .before .before .before .before .before .before .window-power2 .ensures) (c .before .before .before .before .before .before .before .before .before .size-of .ensures) (c .before .before .before .before .before .before .before .before .before .before .before .before .cos-sin .ensures) (c .before .before .before .before .before .before .before .before .step .ensures) (c .before .before .before .before .before .before .update-weights .ensures) (c .with-track .ensures)
+    search heard-by
 
 pub hear-spec : {M : Type 1} → statement M
 hear-spec =
@@ -43,6 +43,6 @@ hear-spec =
     size-of-requires
     step-requires
     update-weights-requires
-    with-track-requires
+    heard-requires
     same-length
     returns)

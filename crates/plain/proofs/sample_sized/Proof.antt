@@ -1,5 +1,5 @@
 use borrow.Author.Needs.{needs}
-use Rattle.plain.proofs.Hearing.{sample-is, stage-r4, feed-fits, sized-again}
+use Rattle.plain.proofs.Hearing.{sample-is, tracked-r4, feed-fits, sized-again}
 use Rattle.plain.proofs.sample_sized.Statement.{statement}
 use Rattle.plain.proofs.sample_sized.Tie as tie
 
@@ -15,17 +15,32 @@ took-requires c κs = sized-again _ _ _ _ _ _ (c .before .before .before .before
 feed-requires : tie.Need-feed-requires
 feed-requires c κs = feed-fits _ _ _ _ _ _ _ (c .before .before .before .before .before .before .before .before .before .before .before .before .before .before .before .pre .0) (c .before .before .before .before .before .before .before .before .before .before .shift .ensures)
 
+with-track-requires : tie.Need-with-track-requires
+with-track-requires c κs = search needs
+
 advance-requires : tie.Need-advance-requires
-advance-requires c κs = stage-r4 _ _ _ _ _ _ _ _ _ (c .before .before .before .before .before .before .before .before .before .before .before .before .before .before .before .before .before .before .before .before .pre .1) (c .before .before .before .before .before .before .before .before .before .before .took .ensures)
+advance-requires c κs =
+    let at-start = c .before .before .before .before .before .before .before .before .before .before .before .before .before .before .before .before .before .before .before .before .before in
+    tracked-r4 _ _ _ (at-start .pre .1) (c .with-track .ensures)
 
 same-length : tie.Need-same-length
 same-length c = search needs
 
 same-length-2 : tie.Need-same-length-2
-same-length-2 c = search needs
+same-length-2 c =
+    let at-feed = c .before .before .before .before .before in
+    let at-shift = c .before .before .before .before .before .before .before .before .before .before .before .before .before .before .before .before in
+    search (needs, at-feed .h2, at-shift .h)
 
 returns : tie.Need-returns
-returns c = sample-is _ _ _ _ _ _ (c .before .before .before .before .before .before .before .before .before .before .before .before .before .before .before .before .before .before .before .before .before .pre .0) _ _ _ _ _ _ (c .before .before .before .before .before .before .before .before .before .before .before .before .before .before .before .before .before .sanitize .ensures) (c .before .before .before .before .before .before .before .before .before .before .before .before .before .before .before .before .shift .ensures) (c .before .before .before .before .before .before .before .before .before .before .before .took .ensures) (c .before .before .before .before .before .feed .ensures) (c .advance .ensures)
+returns c =
+    let at-start = c .before .before .before .before .before .before .before .before .before .before .before .before .before .before .before .before .before .before .before .before .before .before in
+    let at-sanitize = c .before .before .before .before .before .before .before .before .before .before .before .before .before .before .before .before .before .before in
+    let at-shift = c .before .before .before .before .before .before .before .before .before .before .before .before .before .before .before .before .before in
+    let at-took = c .before .before .before .before .before .before .before .before .before .before .before .before in
+    let at-feed = c .before .before .before .before .before .before in
+    let at-track = c .before in
+    sample-is _ _ _ _ _ _ (at-start .pre .0) _ _ _ _ _ _ _ (at-sanitize .sanitize .ensures) (at-shift .shift .ensures) (at-took .took .ensures) (at-feed .feed .ensures) (at-track .with-track .ensures) (c .advance .ensures)
 
 pub sample-sized-spec : {M : Type 1} → statement M
 sample-sized-spec =
@@ -35,6 +50,7 @@ sample-sized-spec =
     shift-requires
     took-requires
     feed-requires
+    with-track-requires
     advance-requires
     same-length
     same-length-2

@@ -7,11 +7,11 @@ use Rattle.plain.proofs.took.Tie as tie
 finite-c-requires : tie.Need-finite-c-requires
 finite-c-requires c κs = search needs
 
-passed-requires : tie.Need-passed-requires
-passed-requires c κs = search needs
+unheard-requires : tie.Need-unheard-requires
+unheard-requires c κs = search needs
 
 returns : tie.Need-returns
-returns c = took-blank _ _ _ _ _ _ (c .before .before .before .before .before .pre) _ (c .before .before .finite-c .ensures) (not-true _ (c .before .if1 .taken)) _ (c .passed .ensures)
+returns c = took-blank _ _ _ _ _ _ (c .before .before .before .before .before .pre) _ (c .before .before .finite-c .ensures) (not-true _ (c .before .if1 .taken)) _ (c .unheard .ensures)
 
 dot-complex-c32-requires : tie.Need-dot-complex-c32-requires
 dot-complex-c32-requires c κs = search needs
@@ -19,14 +19,14 @@ dot-complex-c32-requires c κs = search needs
 finite-c-requires-2 : tie.Need-finite-c-requires-2
 finite-c-requires-2 c κs = search needs
 
-passed-requires-2 : tie.Need-passed-requires-2
-passed-requires-2 c κs = search needs
+unheard-requires-2 : tie.Need-unheard-requires-2
+unheard-requires-2 c κs = search needs
 
 same-length : tie.Need-same-length
 same-length c = search needs
 
 returns-2 : tie.Need-returns-2
-returns-2 c = took-spilled _ _ _ _ _ _ (c .before .before .before .before .before .before .before .before .before .pre) _ (c .before .before .before .before .before .before .finite-c .ensures) (not-false _ (c .before .before .before .before .before .if1 .left)) _ (c .before .before .before .dot-complex-c32 .ensures) _ (c .before .before .finite-c2 .ensures) (not-true _ (c .before .if2 .taken)) _ (c .passed2 .ensures)
+returns-2 c = took-spilled _ _ _ _ _ _ (c .before .before .before .before .before .before .before .before .before .pre) _ (c .before .before .before .before .before .before .finite-c .ensures) (not-false _ (c .before .before .before .before .before .if1 .left)) _ (c .before .before .before .dot-complex-c32 .ensures) _ (c .before .before .finite-c2 .ensures) (not-true _ (c .before .if2 .taken)) _ (c .unheard2 .ensures)
 
 hear-requires : tie.Need-hear-requires
 hear-requires c κs = search needs
@@ -42,11 +42,11 @@ took-spec =
     tie.close
     (tie.spec
     finite-c-requires
-    passed-requires
+    unheard-requires
     returns
     dot-complex-c32-requires
     finite-c-requires-2
-    passed-requires-2
+    unheard-requires-2
     same-length
     returns-2
     hear-requires
