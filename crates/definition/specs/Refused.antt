@@ -16,7 +16,7 @@ use Rattle.types.specs.declared.EqConstellation.the-variants.{Qpsk}
 use Rattle.types.specs.Bits.{f32, f64, zero32, one32}
 use Rattle.definition.specs.Sample.{Equalizer, withRunning}
 use Rattle.definition.specs.Calls.{NewAnswer, newDef, ResetAnswer, resetDef, SetAnswer, setMuCmaDef, setMuDdDef, setFrequencyDef, Answer, equalizeDef}
-use Rattle.definition.specs.Rows.{same, bitsOf, stateBits, sameEqualizer, settings, settingsWith}
+use Rattle.definition.specs.Rows.{same, bitsOf, stateBits, sameEqualizer, settings, settingsWith, stateOf}
 
 -- ---- the operations, compared whole
 
@@ -64,7 +64,7 @@ frequencyIs s v bits =
 
 unfoldable recordOf : EqParams → EqMode → ℕ → ℕ → ℕ → ℕ → EqualizeState
 recordOf p md n kp ki fr =
-    record { params = p; kp = f32 kp; ki = f32 ki; mode = md; count = n; mse = f32 0x3f00_0000; phase = 77; freq = f32 fr }
+    stateOf p kp ki md n 0x3f00_0000 77 fr
 
 unfoldable good : EqualizeState
 good = recordOf (settings 1 1000) Cma 5 0x3c07_6966 0x3967_1b0a 0x3c23_d70a
@@ -109,7 +109,7 @@ broken = startWith (recordOf (settings 1 1000) Cma 1000 0x3c07_6966 0x3967_1b0a 
 
 -- what reset leaves of `start`: count 0, mse 1, phase 0, freq 0, weight 1 in the middle of the forward taps
 unfoldable restarted : EqualizeState → EqMode → Equalizer
-restarted s md = around (record { params = s .params; kp = s .kp; ki = s .ki; mode = md; count = 0; mse = one32; phase = 0; freq = zero32 }) (set (replicate 8 zero32) 2 one32) (replicate 8 zero32)
+restarted s md = around (withRunning s md 0 one32 0 zero32) (set (replicate 8 zero32) 2 one32) (replicate 8 zero32)
 
 unfoldable all : List Bool → Bool
 all [] = true
@@ -267,7 +267,7 @@ callRows =
     ∷ callRefused (startWith (recordOf (settings 1 1000) Cma 5 0x3c07_6966 0x3967_1b0a 0x0da2_425f)) four four (marks 2) (8 ∷ [])
     ∷ callRefused (startWith (recordOf (settings 1 1000) Cma 5 0x3c07_6966 0x3967_1b0a 0x3e00_0001)) four four (marks 2) (8 ∷ [])
     ∷ callReplies (startWith (recordOf (settings 1 1000) Cma 5 0x3c07_6966 0x3967_1b0a 0xbe00_0000)) four four (marks 2) []
-    ∷ callReplies (startWith (record { params = settings 1 1000; kp = f32 0x3c07_6966; ki = f32 0x3967_1b0a; mode = Cma; count = 5; mse = nan; phase = 0; freq = zero32 })) four four (marks 2) []
+    ∷ callReplies (startWith (withRunning good Cma 5 nan 0 zero32)) four four (marks 2) []
     -- R4: Cma with count below `cma_symbols`, Decision with count equal to it; with 4,294,967,295 Cma and 0
     ∷ callRefused broken four four (marks 2) (8 ∷ [])
     ∷ callReplies (startWith (recordOf (settings 1 1000) Cma 999 0x3c07_6966 0x3967_1b0a 0)) four four (marks 2) []

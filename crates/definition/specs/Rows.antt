@@ -5,6 +5,8 @@ use mathlib.Core.List.{List, [], _∷_, _++_, map}
 use lib.Dec.{eqb}
 use lib.Ieee.{Float, binary32, binary64, toBits}
 use Rattle.types.specs.declared.C32.{C32}
+use Rattle.types.specs.declared.EqMode.{EqMode}
+use Rattle.types.specs.declared.EqConstellation.{EqConstellation}
 use Rattle.types.specs.declared.EqConstellation.the-variants.{Qpsk}
 use Rattle.types.specs.declared.EqParams.{EqParams}
 use Rattle.types.specs.declared.EqualizeState.{EqualizeState}
@@ -33,24 +35,27 @@ unfoldable pub sameEqualizer : Equalizer → Equalizer → Bool
 sameEqualizer p q =
     same (stateBits (p .state)) (stateBits (q .state)) && same (bitsOf (p .weights)) (bitsOf (q .weights)) && same (bitsOf (p .window)) (bitsOf (q .window))
 
--- settings: QPSK unless said otherwise, mu 0.05 and 0.02, bandwidth 0.02
-unfoldable pub settings : ℕ → ℕ → EqParams
-settings fb cma = record {
-  constellation = Qpsk;
-  «feedback_taps» = fb;
-  «mu_cma» = f32 0x3d4c_cccd;
-  «mu_dd» = f32 0x3ca3_d70a;
-  «cma_symbols» = cma;
-  «phase_bw» = f64 0x3f94_7ae1_47ae_147b;
-}
-
--- the same with other step sizes and another bandwidth, by their bits
-unfoldable pub settingsWith : ℕ → ℕ → ℕ → ℕ → EqParams
-settingsWith fb cmaBits ddBits bwBits = record {
-  constellation = Qpsk;
-  «feedback_taps» = fb;
+-- settings, and a record, by their numbers, floats by their bits
+unfoldable pub settingsOf : EqConstellation → ℕ → ℕ → ℕ → ℕ → ℕ → EqParams
+settingsOf k taps cmaBits ddBits symbols bwBits = record {
+  constellation = k;
+  «feedback_taps» = taps;
   «mu_cma» = f32 cmaBits;
   «mu_dd» = f32 ddBits;
-  «cma_symbols» = 1000;
+  «cma_symbols» = symbols;
   «phase_bw» = f64 bwBits;
 }
+
+unfoldable pub stateOf : EqParams → ℕ → ℕ → EqMode → ℕ → ℕ → ℕ → ℕ → EqualizeState
+stateOf p kpBits kiBits md n mseBits phase freqBits =
+    record { params = p; kp = f32 kpBits; ki = f32 kiBits; mode = md; count = n; mse = f32 mseBits; phase = phase; freq = f32 freqBits }
+
+-- QPSK, mu 0.05 and 0.02, bandwidth 0.02
+unfoldable pub settings : ℕ → ℕ → EqParams
+unfolding settingsOf
+settings taps symbols = settingsOf Qpsk taps 0x3d4c_cccd 0x3ca3_d70a symbols 0x3f94_7ae1_47ae_147b
+
+-- QPSK with other step sizes and another bandwidth, 1000 symbols in Cma
+unfoldable pub settingsWith : ℕ → ℕ → ℕ → ℕ → EqParams
+unfolding settingsOf
+settingsWith taps cmaBits ddBits bwBits = settingsOf Qpsk taps cmaBits ddBits 1000 bwBits

@@ -1,4 +1,4 @@
--- Laws about the definition, for the theorems and for the code; and the vectors.
+-- Laws about the definition, for the theorems and for the code.
 pub mod Every
 pub mod Parts
 pub mod Bounds
@@ -9,6 +9,5 @@ pub mod Exits
 pub mod Runs
 pub mod Padding
 pub mod Verdicts
-pub mod Vectors
 pub mod Mapped
 pub mod Progress

@@ -1,1 +1,1 @@
-// Laws about the definition, which other crates' proofs cite, and the vectors. It has no code.
+// Laws about the definition, which other crates' proofs cite. It has no code.

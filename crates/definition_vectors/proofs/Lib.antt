@@ -1,0 +1,2 @@
+-- The table of vectors.
+pub mod Tables

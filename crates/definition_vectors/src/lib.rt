@@ -1,0 +1,1 @@
+// Whole calls against the bits that the Rust gives for them. It has no code.
