@@ -45,10 +45,12 @@ fn line_at(k: usize, f: f32) -> f32
     line(cosine::cos_f32(k), cosine::cos_f32(k + 1), f)
 }
 
-// (cos, sin) of the phase p, from the borrowed table: the fraction is worked out once, and the sine has the index (idx + 3072) mod 4096.
+// (cos, sin) of the phase p, from the borrowed table: the fraction is worked out once, and the sine has the index (idx + 3072) mod 4096. These are c and
+// s of step 4 too: at phase 0 the table gives (1, 0).
 pub fn interp_f32_pair_in(t: &[u32; 4097], p: u32) -> CosSin
     requires { ⌜ now t ≡ cosBits ⌝ }
     ensures { λ r. ⌜ r ≡ interpPair p ⌝ }
+    ensures { λ r. ⌜ r ≡ cosSin p ⌝ }
 {
     let idx = (p >> 20) as usize;
     let f = low_part(p);
@@ -61,6 +63,7 @@ pub fn interp_f32_pair_in(t: &[u32; 4097], p: u32) -> CosSin
 // The same, without a borrowed table: for one sample.
 pub fn interp_f32_pair(p: u32) -> CosSin
     ensures { λ r. ⌜ r ≡ interpPair p ⌝ }
+    ensures { λ r. ⌜ r ≡ cosSin p ⌝ }
 {
     let idx = (p >> 20) as usize;
     let f = low_part(p);
@@ -68,19 +71,4 @@ pub fn interp_f32_pair(p: u32) -> CosSin
         c: line_at(idx, f),
         s: line_at(sine_index(idx), f),
     }
-}
-
-// c and s of step 4, from the borrowed table: (1, 0) at phase 0, which is what the table gives there, else from the table.
-pub fn cos_sin_in(t: &[u32; 4097], p: u32) -> CosSin
-    requires { ⌜ now t ≡ cosBits ⌝ }
-    ensures { λ r. ⌜ r ≡ cosSin p ⌝ }
-{
-    interp_f32_pair_in(t, p)
-}
-
-// The same, without a borrowed table: for one sample.
-pub fn cos_sin(p: u32) -> CosSin
-    ensures { λ r. ⌜ r ≡ cosSin p ⌝ }
-{
-    interp_f32_pair(p)
 }

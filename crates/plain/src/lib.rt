@@ -27,7 +27,7 @@ fn hear(s: EqualizeState, w: &mut [f32], h: &[f32], y: C32, n: usize, f: usize) 
     requires { ⌜ Sized s (now w) (now h) n f ⌝ }
     ensures { λ r. ⌜ stage s r (now (w .exit)) ≡ heardAs s (now (w .entry)) n f (now (h .entry)) (hearDef s n f (now (h .entry)) y) ⌝ }
 {
-    let turn = mix::cos_sin(s.phase);
+    let turn = mix::interp_f32_pair(s.phase);
     let forward = slices::window_power(h, 0, 0.0, f);
     let power = slices::window_power(h, f, forward, n);
     let size = steps::size_of(s, power);

@@ -15,6 +15,12 @@ ghost use Rattle.definition.specs.Phase.{phaseStep};
 ghost use Rattle.definition.specs.Sample.{mseAfter, godardError, phaseError, muOf, stepSize};
 ghost use Rattle.steps.specs.Step.{trackOf, aimed, updateIf, stepWith, stepOf, withTrack, heardOf, unheardOf};
 
+// The part of the mean error that a sample renews.
+const MSE_ALPHA: f32 = 0.01;
+
+// The limit of each part of the error in Cma.
+const CMA_CLIP: f32 = 1.0;
+
 // The running numbers that a heard sample changes.
 pub struct Track {
     pub mse: f32,
@@ -57,7 +63,7 @@ fn mean(mse: f32, e: C32) -> f32
 {
     let p = e.re * e.re + e.im * e.im;
     if numeric::is_finite(p) {
-        return numeric::flush_denormal(mse + 0.01 * (p - mse));
+        return numeric::flush_denormal(mse + MSE_ALPHA * (p - mse));
     }
     mse
 }
@@ -105,8 +111,8 @@ fn modulus(y: C32, radius: f32) -> C32
 {
     let f = (y.re * y.re + y.im * y.im) - radius;
     C32 {
-        re: numeric::clip(y.re * f, 1.0),
-        im: numeric::clip(y.im * f, 1.0),
+        re: numeric::clip(y.re * f, CMA_CLIP),
+        im: numeric::clip(y.im * f, CMA_CLIP),
     }
 }
 
@@ -180,7 +186,7 @@ pub fn follow(s: EqualizeState, t: &[u32; 4097], y: C32, forward: f32, size: f32
     requires { ⌜ now t ≡ cosBits ⌝ }
     ensures { λ r. ⌜ r ≡ stepOf s y forward size ⌝ }
 {
-    let turn = mix::cos_sin_in(t, s.phase);
+    let turn = mix::interp_f32_pair_in(t, s.phase);
     step(s, turn, y, forward, size)
 }
 

@@ -4,8 +4,8 @@ use Rattle.plain.proofs.Hearing.{heard-by}
 use Rattle.plain.proofs.hear.Statement.{statement}
 use Rattle.plain.proofs.hear.Tie as tie
 
-cos-sin-requires : tie.Need-cos-sin-requires
-cos-sin-requires c κs = search needs
+interp-f32-pair-requires : tie.Need-interp-f32-pair-requires
+interp-f32-pair-requires c κs = search needs
 
 window-power-requires : tie.Need-window-power-requires
 unfolding power
@@ -37,7 +37,7 @@ pub hear-spec : {M : Type 1} → statement M
 hear-spec =
     tie.close
     (tie.spec
-    cos-sin-requires
+    interp-f32-pair-requires
     window-power-requires
     window-power-requires-2
     size-of-requires

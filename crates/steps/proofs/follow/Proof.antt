@@ -3,8 +3,8 @@ use Rattle.steps.specs.Step.{stepOf}
 use Rattle.steps.proofs.follow.Statement.{statement}
 use Rattle.steps.proofs.follow.Tie as tie
 
-cos-sin-in-requires : tie.Need-cos-sin-in-requires
-cos-sin-in-requires c κs = search needs
+interp-f32-pair-in-requires : tie.Need-interp-f32-pair-in-requires
+interp-f32-pair-in-requires c κs = search needs
 
 step-requires : tie.Need-step-requires
 step-requires c κs = search needs
@@ -14,4 +14,4 @@ unfolding stepOf
 returns c = cc
 
 pub follow-spec : {M : Type 1} → statement M
-follow-spec = tie.close (tie.spec cos-sin-in-requires step-requires returns)
+follow-spec = tie.close (tie.spec interp-f32-pair-in-requires step-requires returns)
