@@ -60,8 +60,11 @@ fn rows() -> Vec<Row> {
         (Qpsk, 31, 15),
     ];
     let single = [(Qpsk, 11, 0), (Qpsk, 63, 0), (Qpsk, 15, 5), (Qpsk, 31, 15)];
+    let brief = [(Qpsk, 3, 0), (Qpsk, 11, 0), (Qpsk, 31, 0), (Qpsk, 15, 5)];
     let long = long.into_iter().map(row(4096));
     long.chain(short.into_iter().map(row(64)))
+        .chain(brief.into_iter().map(row(16)))
+        .chain(brief.into_iter().map(row(8)))
         .chain(single.into_iter().map(row(1)))
         .collect()
 }
