@@ -1,0 +1,19 @@
+use Rattle.lanes_adapt.specs.Steps.{uneven}
+use Rattle.lanes_adapt.specs.Steps.{brokenAt}
+use Prim.Native.Nat.{ℕ, _+_, _-_, _*_, _/_, _%_, _≤_, _<_}
+use mathlib.Core.Path.{_≡_, refl, sym, _∙_, ap}
+use lib.ListN.{length, getD, set, length-set}
+use native.Mathlib.Omega.{arith}
+use borrow.Author.Needs.{needs}
+use Rattle.lanes_adapt.proofs.broken_at.Statement.{statement}
+use Rattle.lanes_adapt.proofs.broken_at.Tie as tie
+
+apart-requires : tie.Need-apart-requires
+apart-requires c κs = search needs
+
+returns : tie.Need-returns
+unfolding brokenAt
+returns c = rw (c .apart .ensures)
+
+pub broken-at-spec : {M : Type 1} → statement M
+broken-at-spec = tie.close (tie.spec apart-requires returns)

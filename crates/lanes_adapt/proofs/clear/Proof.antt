@@ -1,0 +1,19 @@
+use Rattle.lanes_adapt.specs.Steps.{clearOf}
+use Prim.Native.Nat.{ℕ, _+_, _-_, _*_, _/_, _%_, _≤_, _<_}
+use mathlib.Core.Path.{_≡_, refl, sym, _∙_, ap}
+use lib.ListN.{length, getD, set, length-set}
+use native.Mathlib.Omega.{arith}
+use borrow.Author.Needs.{needs}
+use Rattle.lanes_adapt.proofs.clear.Statement.{statement}
+use Rattle.lanes_adapt.proofs.clear.Tie as tie
+
+returns : tie.Need-returns
+unfolding clearOf
+returns c = rw (c .if1 .taken)
+
+returns-2 : tie.Need-returns-2
+unfolding clearOf
+returns-2 c = rw (c .if1 .left)
+
+pub clear-spec : {M : Type 1} → statement M
+clear-spec = tie.close (tie.spec returns returns-2)

@@ -1,0 +1,18 @@
+use Rattle.lanes_adapt.specs.Steps.{laneIm}
+use Prim.Native.Nat.{ℕ, _+_, _-_, _*_, _/_, _%_, _≤_, _<_}
+use mathlib.Core.Path.{_≡_, refl, sym, _∙_, ap}
+use lib.ListN.{length, getD, set, length-set}
+use native.Mathlib.Omega.{arith}
+use borrow.Author.Needs.{needs}
+use Rattle.lanes_adapt.proofs.step_im.Statement.{statement}
+use Rattle.lanes_adapt.proofs.step_im.Tie as tie
+
+kept-requires : tie.Need-kept-requires
+kept-requires c κs = search needs
+
+returns : tie.Need-returns
+unfolding laneIm
+returns c = search needs
+
+pub step-im-spec : {M : Type 1} → statement M
+step-im-spec = tie.close (tie.spec kept-requires returns)

@@ -1,0 +1,3 @@
+-- Ahead: the samples of a run in the window. Clock: the modes of a run and its step sizes.
+pub mod Ahead
+pub mod Clock
