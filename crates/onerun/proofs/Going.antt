@@ -16,9 +16,9 @@ use Rattle.definition.specs.Rules.{acceptedDef, ruleR4}
 use Rattle.definition_laws.proofs.Kept.{advance-keeps}
 use Rattle.lanes.specs.Arrays.{Arrays, Long}
 use Rattle.lanes.specs.Holds.{Lies, Holds, Put}
-use Rattle.lanes.specs.Clock.{cmaLeft, Sized, Clock}
-use Rattle.lanes.proofs.Holding.{window-is}
-use Rattle.lanes.proofs.Clocks.{clock-none, clock-next}
+use Rattle.lanes_prepare.specs.Clock.{cmaLeft, Sized, Clock}
+use Rattle.lanes_sample.proofs.Holding.{window-is}
+use Rattle.lanes_prepare.proofs.Clocks.{clock-none, clock-next}
 use Rattle.steps.specs.declared.Track.{Track}
 use Rattle.onerun.specs.declared.Shape.{Shape}
 use Rattle.onerun.specs.declared.Sampled.{Sampled}

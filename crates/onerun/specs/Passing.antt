@@ -16,9 +16,11 @@ use Rattle.definition.specs.Rules.{acceptedDef, ruleR4}
 use Rattle.definition.specs.Run.{runDef}
 use Rattle.lanes.specs.Arrays.{Arrays, arrays, Long}
 use Rattle.lanes.specs.Holds.{Lies, Holds, Put}
-use Rattle.lanes.specs.Ahead.{Between, squareAt, Entered}
-use Rattle.lanes.specs.Clock.{Sized}
-use Rattle.lanes.specs.Load.{Moved}
+use Rattle.lanes.specs.Between.{Between}
+use Rattle.lanes.specs.Powers.{squareAt}
+use Rattle.lanes_prepare.specs.Ahead.{Entered}
+use Rattle.lanes_prepare.specs.Clock.{Sized}
+use Rattle.lanes_load.specs.Load.{Moved}
 use Rattle.onerun.specs.declared.Shape.{Shape}
 use Rattle.onerun.specs.Taken.{Lanes, Setting}
 

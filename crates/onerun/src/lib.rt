@@ -101,7 +101,7 @@ fn hear(
     let u = r.update;
     let z = r.z;
     let fed = r.fed;
-    lanes::adapt::adapt(
+    lanes_adapt::adapt(
         u,
         wr,
         wi,
@@ -162,7 +162,7 @@ fn take(
         (arrays (now (wr .entry)) (now (wi .entry)) (now (xr .entry)) (now (xi .entry)) (now (q .entry)))
         (now (wr .exit)) (now (wi .exit)) r ⌝ }
 {
-    let f = lanes::run::measure(
+    let f = lanes_sample::measure(
         g.m,
         g.lanes,
         g.more,
@@ -212,7 +212,7 @@ fn sample(
     let fed = r.fed;
     let track = r.track;
     let out = r.z;
-    lanes::run::feed(xr, xi, q, at + 152, fed);
+    lanes_sample::feed(xr, xi, q, at + 152, fed);
     let state = record::mode::advance(steps::with_track(s, track));
     Sampled {
         state,

@@ -12,10 +12,12 @@ use Rattle.definition.specs.Packed.{equalizer}
 use Rattle.definition.specs.Rules.{acceptedDef}
 use Rattle.lanes.specs.Arrays.{Arrays, arrays, Long}
 use Rattle.lanes.specs.Holds.{Holds}
-use Rattle.lanes.specs.Ahead.{Between, Entered, squareAt, chainOf}
-use Rattle.lanes.specs.Clock.{Sized}
-use Rattle.lanes.proofs.Starting.{entered-put, entered-holds, ahead-is}
-use Rattle.lanes.proofs.Ending.{end-holds}
+use Rattle.lanes.specs.Between.{Between}
+use Rattle.lanes_prepare.specs.Ahead.{Entered}
+use Rattle.lanes.specs.Powers.{squareAt, chainOf}
+use Rattle.lanes_prepare.specs.Clock.{Sized}
+use Rattle.lanes_prepare.proofs.Start.{entered-put, entered-holds, ahead-is}
+use Rattle.lanes_load.proofs.End.{end-holds}
 use Rattle.onerun.specs.declared.Shape.{Shape}
 use Rattle.onerun.specs.Taken.{Fits, Setting}
 use Rattle.onerun.specs.Passing.{Begins, Begun, Passed, Runs, Ends, Blocks}
