@@ -7,16 +7,9 @@ ghost use Rattle.lanes_load.specs.Load.{limitAt, Joined, Loaded, Moved};
 ghost use Rattle.lanes.specs.Holds.{Limits};
 
 // count complex values of x, from `from` on, into the lanes from `at` on.
-pub fn split(
-    re: &mut [f32; 144],
-    im: &mut [f32; 144],
-    at: usize,
-    x: &[f32],
-    from: usize,
-    count: usize,
-)
-    requires { ⌜ (length (now re) ≡ 144) × (length (now im) ≡ 144) ⌝ }
-    requires { ⌜ (at + count ≤ 144) × (2 * (from + count) ≤ length (now x)) ⌝ }
+pub fn split(re: &mut [f32], im: &mut [f32], at: usize, x: &[f32], from: usize, count: usize)
+    requires { ⌜ (at + count ≤ length (now re)) × (at + count ≤ length (now im)) ⌝ }
+    requires { ⌜ 2 * (from + count) ≤ length (now x) ⌝ }
     ensures { λ _. ⌜ Loaded (now (x .entry)) at from count (now (re .entry)) (now (im .entry)) (now (re .exit)) (now (im .exit)) ⌝ }
 {
     let mut i = 0usize;
@@ -28,49 +21,9 @@ pub fn split(
 }
 
 // And back.
-pub fn joined(x: &mut [f32], re: &[f32; 144], im: &[f32; 144], at: usize, from: usize, count: usize)
-    requires { ⌜ (at + count ≤ 144) × (2 * (from + count) ≤ length (now x)) ⌝ }
-    ensures { λ _. ⌜ Joined (now (re .entry)) (now (im .entry)) at from count (now (x .entry)) (now (x .exit)) ⌝ }
-{
-    let mut i = 0usize;
-    while i < count {
-        x[2 * (from + i)] = re[at + i];
-        x[2 * (from + i) + 1] = im[at + i];
-        i += 1;
-    }
-}
-
-// The same for a window.
-pub fn split_long(
-    re: &mut [f32; 288],
-    im: &mut [f32; 288],
-    at: usize,
-    x: &[f32],
-    from: usize,
-    count: usize,
-)
-    requires { ⌜ (length (now re) ≡ 288) × (length (now im) ≡ 288) ⌝ }
-    requires { ⌜ (at + count ≤ 288) × (2 * (from + count) ≤ length (now x)) ⌝ }
-    ensures { λ _. ⌜ Loaded (now (x .entry)) at from count (now (re .entry)) (now (im .entry)) (now (re .exit)) (now (im .exit)) ⌝ }
-{
-    let mut i = 0usize;
-    while i < count {
-        re[at + i] = x[2 * (from + i)];
-        im[at + i] = x[2 * (from + i) + 1];
-        i += 1;
-    }
-}
-
-// And back.
-pub fn joined_long(
-    x: &mut [f32],
-    re: &[f32; 288],
-    im: &[f32; 288],
-    at: usize,
-    from: usize,
-    count: usize,
-)
-    requires { ⌜ (at + count ≤ 288) × (2 * (from + count) ≤ length (now x)) ⌝ }
+pub fn joined(x: &mut [f32], re: &[f32], im: &[f32], at: usize, from: usize, count: usize)
+    requires { ⌜ (at + count ≤ length (now re)) × (at + count ≤ length (now im)) ⌝ }
+    requires { ⌜ 2 * (from + count) ≤ length (now x) ⌝ }
     ensures { λ _. ⌜ Joined (now (re .entry)) (now (im .entry)) at from count (now (x .entry)) (now (x .exit)) ⌝ }
 {
     let mut i = 0usize;

@@ -258,8 +258,8 @@ fn load(
 {
     lanes_load::split(wr, wi, 0, weights, 0, n);
     lanes_load::split(wr, wi, 72 + n % 8, weights, n, m);
-    lanes_load::split_long(xr, xi, 64, window, 0, n);
-    lanes_load::split_long(xr, xi, 216, window, n, m);
+    lanes_load::split(xr, xi, 64, window, 0, n);
+    lanes_load::split(xr, xi, 216, window, n, m);
     lanes_prepare::squares(q, xr, xi, 216, 216 + m);
 }
 
@@ -281,8 +281,8 @@ fn store(
 {
     lanes_load::joined(weights, wr, wi, 0, 0, n);
     lanes_load::joined(weights, wr, wi, 72 + n % 8, n, m);
-    lanes_load::joined_long(window, xr, xi, 64, 0, n);
-    lanes_load::joined_long(window, xr, xi, 216, n, m);
+    lanes_load::joined(window, xr, xi, 64, 0, n);
+    lanes_load::joined(window, xr, xi, 216, n, m);
 }
 
 // A block by n forward and m feedback taps: arrays, all runs, and back.

@@ -1,11 +1,11 @@
-use lib.Ieee.{nan}
-use Rattle.lanes_load.specs.Load.{Joined}
-use Rattle.lanes_load.proofs.Store.{joined-none, joined-more}
-use Prim.Native.Nat.{ℕ, _+_, _-_, _*_, _/_, _%_, _≤_, _<_}
-use mathlib.Core.Path.{_≡_, refl, sym, _∙_, ap}
-use lib.ListN.{length, getD, set, length-set}
+-- `joined` stores the lanes from `at` on, and no other: each turn of its loop stores one complex number.
+use Prim.Native.Nat.{_-_, _≤_}
+use mathlib.Core.Path.{_≡_, refl}
+use lib.ListN.{length, length-set}
 use native.Mathlib.Omega.{arith}
 use borrow.Author.Needs.{needs}
+use Rattle.lanes_load.specs.Load.{Joined}
+use Rattle.lanes_load.proofs.Store.{joined-none, joined-more}
 use Rattle.lanes_load.proofs.joined.Statement.{statement}
 use Rattle.lanes_load.proofs.joined.Tie as tie
 
@@ -24,8 +24,8 @@ add-x c = search needs
 mul-x : tie.Need-mul-x Inv-loop μ-loop
 mul-x c = search needs
 
-element-copy-out-x : tie.Need-element-copy-out-x Inv-loop μ-loop
-element-copy-out-x c = search needs
+shared-slice-read-x : tie.Need-shared-slice-read-x Inv-loop μ-loop
+shared-slice-read-x c = search needs
 
 add-x-2 : tie.Need-add-x-2 Inv-loop μ-loop
 add-x-2 c = search needs
@@ -45,8 +45,8 @@ add-x-3 c = search needs
 mul-x-4 : tie.Need-mul-x-4 Inv-loop μ-loop
 mul-x-4 c = search needs
 
-element-copy-out-x-2 : tie.Need-element-copy-out-x-2 Inv-loop μ-loop
-element-copy-out-x-2 c = search needs
+shared-slice-read-x-2 : tie.Need-shared-slice-read-x-2 Inv-loop μ-loop
+shared-slice-read-x-2 c = search needs
 
 add-x-4 : tie.Need-add-x-4 Inv-loop μ-loop
 add-x-4 c = search needs
@@ -92,14 +92,14 @@ joined-spec =
     loop-holds
     add-x
     mul-x
-    element-copy-out-x
+    shared-slice-read-x
     add-x-2
     mul-x-2
     mul-x-3
     slice-write-x
     add-x-3
     mul-x-4
-    element-copy-out-x-2
+    shared-slice-read-x-2
     add-x-4
     mul-x-5
     add-x-5
