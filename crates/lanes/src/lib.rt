@@ -1,5 +1,8 @@
 // The split arrays of the quick and the joint path: real and imaginary parts apart, weights padded with zero lanes.
 
+// The most samples of a run.
+pub const RUN: usize = 64;
+
 // Lanes of weights, real or imaginary parts.
 pub struct Weights {}
 

@@ -15,7 +15,7 @@ use Rattle.definition.specs.Slices.{reAt, imAt, newRe, newIm, updated}
 use Rattle.lanes_adapt.specs.Steps.{uneven, laneRe, laneIm, stepRe, stepIm, anyOf, brokenAt, brokenIn, clearOf, clearIn, Within}
 use Rattle.lanes.specs.Holds.{Lies, Blank, Half, Limits}
 use Rattle.lanes_adapt.proofs.Tests.{kept-tiny, kept-top-fine, even-fine, fine-even, any-false, none-any, tiny-low, tiny-not-high, top-not-low, top-high}
-use Rattle.lanes_adapt.proofs.Updating.{updated-re, updated-im}
+use Rattle.lanes_adapt.proofs.Update.{updated-re, updated-im}
 
 lane-pad-re : (w l a b gr gi : Float) → l ≡ inf false → T (finite (laneRe w l a b gr gi)) → laneRe w l a b gr gi ≡ zero32
 unfolding laneRe

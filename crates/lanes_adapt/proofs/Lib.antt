@@ -1,7 +1,7 @@
--- Loops, Stepping: one step of each loop. Tests: the code's tests. Updating: the new weights by index. HalfStep, Adapting: the weights after a sample.
+-- Loops, HalfLoop: one step of each loop. Tests: the code's tests. Update: the new weights by index. HalfStep, Adaptation: the weights after a sample.
 pub mod Loops
-pub mod Stepping
+pub mod HalfLoop
 pub mod Tests
-pub mod Updating
+pub mod Update
 pub mod HalfStep
-pub mod Adapting
+pub mod Adaptation

@@ -32,7 +32,7 @@ anyOf zero p = false
 anyOf (suc n) p = anyOf n p || p n
 
 -- n elements of old, from o on, replaced by f
-pub record Mapped (f : ℕ → Float) (o n : ℕ) (old l : List Float) : Type 0 where
+pub record Replaced (f : ℕ → Float) (o n : ℕ) (old l : List Float) : Type 0 where
   pub long : length l ≡ length old
   pub done : (k : ℕ) → k < n → getD l (o + k) nan ≡ f k
   pub low : (k : ℕ) → k < o → getD l k nan ≡ getD old k nan

@@ -1,13 +1,13 @@
 // The weights' step.
 ghost use mathlib.Core.Path.{_≡_};
-ghost use Prim.Native.Nat.{_+_, _*_, _<_, _≤_};
+ghost use Prim.Native.Nat.{_+_, _<_, _≤_};
 ghost use lib.ListN.{length};
-ghost use Rattle.lanes_adapt.specs.Steps.{keptOf, uneven, stepRe, stepIm, laneRe, laneIm, anyOf, clearOf, Mapped, brokenAt, brokenIn, clearIn};
+ghost use Rattle.lanes_adapt.specs.Steps.{keptOf, uneven, stepRe, stepIm, laneRe, laneIm, anyOf, clearOf, Replaced, brokenAt, brokenIn, clearIn};
 ghost use Rattle.lanes_adapt.specs.Settled.{startIn, Settled};
 ghost use Rattle.lanes.specs.Adapts.{Adapts};
 use types::Update;
 
-// +0 where |v| is below the lane's limit: 1e-30, and infinity for padding.
+// +0 where |v| is below the lane's limit: TINY, and infinity for padding.
 fn kept(v: f32, limit: f32) -> f32
     ensures { λ r. ⌜ r ≡ keptOf v limit ⌝ }
 {
@@ -34,7 +34,7 @@ fn step_im(w: f32, l: f32, a: f32, b: f32, gr: f32, gi: f32) -> f32
 }
 
 // A step of the lanes from `from` on; whether some lane is not finite.
-fn lanes_step(
+fn update_half(
     wr: &mut [f32; 144],
     wi: &mut [f32; 144],
     limit: &[f32; 144],
@@ -48,8 +48,8 @@ fn lanes_step(
 ) -> bool
     requires { ⌜ (length (now wr) ≡ 144) × (length (now wi) ≡ 144) ⌝ }
     requires { ⌜ (at + lanes ≤ 288) × (from + lanes ≤ 144) ⌝ }
-    ensures { λ _. ⌜ Mapped (stepRe (now (wr .entry)) (now (limit .entry)) (now (xr .entry)) (now (xi .entry)) at from gr gi) from lanes (now (wr .entry)) (now (wr .exit)) ⌝ }
-    ensures { λ _. ⌜ Mapped (stepIm (now (wi .entry)) (now (limit .entry)) (now (xr .entry)) (now (xi .entry)) at from gr gi) from lanes (now (wi .entry)) (now (wi .exit)) ⌝ }
+    ensures { λ _. ⌜ Replaced (stepRe (now (wr .entry)) (now (limit .entry)) (now (xr .entry)) (now (xi .entry)) at from gr gi) from lanes (now (wr .entry)) (now (wr .exit)) ⌝ }
+    ensures { λ _. ⌜ Replaced (stepIm (now (wi .entry)) (now (limit .entry)) (now (xr .entry)) (now (xi .entry)) at from gr gi) from lanes (now (wi .entry)) (now (wi .exit)) ⌝ }
     ensures { λ b. ⌜ b ≡ anyOf lanes (λ i. uneven (stepRe (now (wr .entry)) (now (limit .entry)) (now (xr .entry)) (now (xi .entry)) at from gr gi i) (stepIm (now (wi .entry)) (now (limit .entry)) (now (xr .entry)) (now (xi .entry)) at from gr gi i)) ⌝ }
 {
     let mut bad = false;
@@ -99,7 +99,7 @@ fn clear(v: f32, limit: f32, all: bool) -> f32
 // Padding of the half from `from` on back to +0; all its lanes where the weights start anew. 72 is a constant here: the compiler unrolls the loop and so aligns the array.
 fn cleared(w: &mut [f32; 144], limit: &[f32; 144], from: usize, all: bool)
     requires { ⌜ (length (now w) ≡ 144) × (from ≤ 72) ⌝ }
-    ensures { λ _. ⌜ Mapped (clearIn (now (w .entry)) (now (limit .entry)) all from) from 72 (now (w .entry)) (now (w .exit)) ⌝ }
+    ensures { λ _. ⌜ Replaced (clearIn (now (w .entry)) (now (limit .entry)) all from) from 72 (now (w .entry)) (now (w .exit)) ⌝ }
 {
     let mut i = 0usize;
     while i < 72 {
@@ -110,7 +110,7 @@ fn cleared(w: &mut [f32; 144], limit: &[f32; 144], from: usize, all: bool)
 }
 
 // 1 at the centre where the weights start anew.
-fn start(w: &mut [f32; 144], centre: usize, all: bool)
+fn start_split(w: &mut [f32; 144], centre: usize, all: bool)
     requires { ⌜ centre < 144 ⌝ }
     ensures { λ _. ⌜ now (w .exit) ≡ startIn all centre (now (w .entry)) ⌝ }
 {
@@ -130,10 +130,11 @@ fn settle(wr: &mut [f32; 144], wi: &mut [f32; 144], limit: &[f32; 144], centre: 
     cleared(wi, limit, 0, all);
     cleared(wr, limit, 72, all);
     cleared(wi, limit, 72, all);
-    start(wr, centre, all);
+    start_split(wr, centre, all);
 }
 
-pub fn adapt(
+// The weights' step by the update u: both halves of the lanes, and the start weights where a weight is not finite.
+pub fn update_split(
     u: Update,
     wr: &mut [f32; 144],
     wi: &mut [f32; 144],
@@ -155,8 +156,8 @@ pub fn adapt(
     let Update::Step(gr, gi) = u else {
         return;
     };
-    let b1 = lanes_step(wr, wi, limit, xr, xi, at, 0, lanes, gr, gi);
-    let b2 = lanes_step(wr, wi, limit, xr, xi, bt, 72, more, gr, gi);
+    let b1 = update_half(wr, wi, limit, xr, xi, at, 0, lanes, gr, gi);
+    let b2 = update_half(wr, wi, limit, xr, xi, bt, 72, more, gr, gi);
     if b1 | b2 {
         settle(wr, wi, limit, centre);
     }

@@ -1,17 +1,9 @@
 // The filter sum over split arrays, in blocks of eight lanes.
 ghost use mathlib.Core.Path.{_≡_};
-ghost use Prim.Native.Nat.{_+_, _*_, _<_, _≤_, _%_};
-ghost use lib.ListN.{length, getD};
-ghost use lib.Ieee.{nan};
-ghost use Rattle.definition.specs.Slices.{tree};
+ghost use Prim.Native.Nat.{_+_, _<_, _≤_, _%_};
+ghost use lib.ListN.{length};
 ghost use Rattle.lanes_filter.specs.Split.{splitRe, splitIm, Onto, sumTwo};
 ghost use Rattle.dot.specs.Added.{Added};
-
-fn tree8(a: &[f32; 8]) -> f32
-    ensures { λ r. ⌜ r ≡ tree (λ k. getD (now (a .entry)) k nan) ⌝ }
-{
-    ((a[0] + a[4]) + (a[2] + a[6])) + ((a[1] + a[5]) + (a[3] + a[7]))
-}
 
 // The real part of window value at + j times weight from + j.
 fn prod_re(
@@ -73,7 +65,7 @@ fn blocks_re(
     }
 }
 
-pub fn sum_re(
+pub fn dot_split_re(
     xr: &[f32; 288],
     xi: &[f32; 288],
     wr: &[f32; 144],
@@ -90,7 +82,7 @@ pub fn sum_re(
     let mut acc = [0.0f32; 8];
     blocks_re(&mut acc, xr, xi, wr, wi, at, 0, lanes);
     blocks_re(&mut acc, xr, xi, wr, wi, bt, 72, more);
-    tree8(&acc)
+    dot::dot_complex_tree(&acc)
 }
 
 // The imaginary part of window value at + j times weight from + j.
@@ -152,7 +144,7 @@ fn blocks_im(
     }
 }
 
-pub fn sum_im(
+pub fn dot_split_im(
     xr: &[f32; 288],
     xi: &[f32; 288],
     wr: &[f32; 144],
@@ -169,5 +161,5 @@ pub fn sum_im(
     let mut acc = [0.0f32; 8];
     blocks_im(&mut acc, xr, xi, wr, wi, at, 0, lanes);
     blocks_im(&mut acc, xr, xi, wr, wi, bt, 72, more);
-    tree8(&acc)
+    dot::dot_complex_tree(&acc)
 }

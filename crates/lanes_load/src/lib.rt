@@ -1,8 +1,7 @@
 // The caller's slices into split arrays and back.
 ghost use mathlib.Core.Path.{_≡_};
-ghost use Prim.Native.Nat.{_+_, _-_, _*_, _<_, _≤_};
-ghost use lib.ListN.{length, getD};
-ghost use lib.Ieee.{nan};
+ghost use Prim.Native.Nat.{_+_, _*_, _≤_};
+ghost use lib.ListN.{length};
 ghost use Rattle.lanes_load.specs.Load.{limitAt, Joined, Loaded, Moved};
 ghost use Rattle.lanes.specs.Holds.{Limits};
 
@@ -47,17 +46,17 @@ pub fn moved(x: &mut [f32; 288], from: usize, to: usize, count: usize)
     }
 }
 
-// 1e-30 for a weight's lane, infinity for padding: weights before n, and from `from` to `to`.
+// TINY for a weight's lane, infinity for padding: weights before n, and from `from` to `to`.
 fn limit_of(i: usize, n: usize, from: usize, to: usize) -> f32
     ensures { λ r. ⌜ r ≡ limitAt n from to i ⌝ }
 {
     if i < n {
-        return 1e-30;
+        return numeric::TINY;
     }
     if i < from {
         return 1.0 / 0.0;
     }
-    if i < to { 1e-30 } else { 1.0 / 0.0 }
+    if i < to { numeric::TINY } else { 1.0 / 0.0 }
 }
 
 // The limits of the lanes: n forward, from 0 on, and m feedback, from 72 + front on.

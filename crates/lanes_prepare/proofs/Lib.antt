@@ -1,5 +1,5 @@
--- Entering, Chains: one step of each loop. Start: the start of a run. Clocks: the modes of a run.
-pub mod Entering
+-- Entry, Chains: one step of each loop. Start: the start of a run. Clock: the modes of a run.
+pub mod Entry
 pub mod Chains
 pub mod Start
-pub mod Clocks
+pub mod Clock

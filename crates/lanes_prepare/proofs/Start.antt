@@ -15,7 +15,7 @@ use Rattle.definition.specs.Slices.{reAt, imAt, power}
 use Rattle.definition.specs.Sample.{Equalizer, sanitized}
 use Rattle.definition_laws.proofs.Kept.{sanitized-finite}
 use Rattle.lanes.specs.Between.{Between}
-use Rattle.lanes_prepare.specs.Ahead.{Entered, heldOf}
+use Rattle.lanes_prepare.specs.Entered.{Entered, heldOf}
 use Rattle.lanes.specs.Powers.{squareAt, chainOf}
 use Rattle.lanes.specs.Holds.{Lies, Calm, Holds, Put}
 use Rattle.lanes.specs.Arrays.{arrays}

@@ -19,7 +19,7 @@ abbrev pub cmaLeft : EqualizeState → ℕ
 cmaLeft s = leftIn (s .mode) (s .params .«cma_symbols») (s .count)
 
 -- the step size of the window at j, by the mode of sample 63 - j
-pub record Sized (s : EqualizeState) (power : List Float) (from : ℕ) (steps : List Float) : Type 0 where
+pub record StepSizes (s : EqualizeState) (power : List Float) (from : ℕ) (steps : List Float) : Type 0 where
   pub cma : (j : ℕ) → from ≤ j → j < 64 → 63 - j < cmaLeft s → getD steps j nan ≡ stepSize (s .params .«mu_cma») (getD power j nan)
   pub decided : (j : ℕ) → from ≤ j → j < 64 → cmaLeft s ≤ 63 - j → getD steps j nan ≡ stepSize (s .params .«mu_dd») (getD power j nan)
 

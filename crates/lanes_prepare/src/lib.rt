@@ -1,15 +1,17 @@
 // What a run needs before its first sample.
 ghost use mathlib.Core.Path.{_≡_};
-ghost use Prim.Native.Nat.{_+_, _-_, _*_, _<_, _≤_, _%_};
+ghost use Prim.Native.Nat.{_+_, _-_, _≤_, _%_, min};
 ghost use lib.ListN.{length, getD};
 ghost use lib.Ieee.{nan};
 ghost use Rattle.definition.specs.Sample.{stepSize};
 ghost use Rattle.lanes.specs.Powers.{squareAt, chainOf};
 ghost use Rattle.lanes.specs.Between.{Between};
-ghost use Rattle.lanes_prepare.specs.Ahead.{Entered, heldOf};
+ghost use Rattle.lanes_prepare.specs.Entered.{Entered, heldOf};
 ghost use Rattle.dot.specs.Added.{Added};
-ghost use Rattle.lanes_prepare.specs.Clock.{cmaLeft, Sized};
+ghost use Rattle.lanes_prepare.specs.Clock.{cmaLeft, StepSizes};
+use lanes::RUN;
 use types::EqMode;
+use types::EqParams;
 use types::EqualizeState;
 
 // The part of a sample that goes in: +0 where the sample is not finite.
@@ -31,8 +33,8 @@ pub fn enter(xr: &mut [f32; 288], xi: &mut [f32; 288], input: &[f32])
         let a = input[2 * k];
         let b = input[2 * k + 1];
         let ok = numeric::is_finite(a) & numeric::is_finite(b);
-        xr[63 - k] = held(a, ok);
-        xi[63 - k] = held(b, ok);
+        xr[RUN - 1 - k] = held(a, ok);
+        xi[RUN - 1 - k] = held(b, ok);
         k += 1;
     }
 }
@@ -63,7 +65,7 @@ fn add16(acc: &mut [f32; 16], q: &[f32; 288], from: usize)
     }
 }
 
-fn put16(power: &mut [f32; 64], acc: &[f32; 16], from: usize)
+fn put16(power: &mut [f32; RUN], acc: &[f32; 16], from: usize)
     requires { ⌜ length (now power) ≡ 64 ⌝ }
     requires { ⌜ from + 16 ≤ 64 ⌝ }
     ensures { λ _. ⌜ Between (λ i. getD (now (acc .entry)) (i - from) nan) from (from + 16) (now (power .entry)) (now (power .exit)) ⌝ }
@@ -76,7 +78,7 @@ fn put16(power: &mut [f32; 64], acc: &[f32; 16], from: usize)
 }
 
 // The powers of sixteen windows side by side.
-fn tile(power: &mut [f32; 64], q: &[f32; 288], j: usize, n: usize)
+fn tile(power: &mut [f32; RUN], q: &[f32; 288], j: usize, n: usize)
     requires { ⌜ length (now power) ≡ 64 ⌝ }
     requires { ⌜ (j ≤ 48) × (n ≤ 64) ⌝ }
     ensures { λ _. ⌜ Between (λ i. chainOf (now (q .entry)) i n) j (j + 16) (now (power .entry)) (now (power .exit)) ⌝ }
@@ -90,32 +92,39 @@ fn tile(power: &mut [f32; 64], q: &[f32; 288], j: usize, n: usize)
     put16(power, &acc, j);
 }
 
-pub fn powers(power: &mut [f32; 64], q: &[f32; 288], from: usize, n: usize)
+pub fn powers(power: &mut [f32; RUN], q: &[f32; 288], from: usize, n: usize)
     requires { ⌜ length (now power) ≡ 64 ⌝ }
     requires { ⌜ (n ≤ 64) × ((from ≤ 64) × (from % 16 ≡ 0)) ⌝ }
     ensures { λ _. ⌜ Between (λ i. chainOf (now (q .entry)) i n) from 64 (now (power .entry)) (now (power .exit)) ⌝ }
 {
     let mut j = from;
-    while j < 64 {
+    while j < RUN {
         tile(power, q, j, n);
         j += 16;
     }
 }
 
-// mu / (P + 1e-6) for the windows from .. to.
-fn divide(steps: &mut [f32; 64], power: &[f32; 64], from: usize, to: usize, mu: f32)
+// mu / (P + NLMS_EPS) for the windows from .. to.
+fn divide(steps: &mut [f32; RUN], power: &[f32; RUN], from: usize, to: usize, mu: f32)
     requires { ⌜ length (now steps) ≡ 64 ⌝ }
     requires { ⌜ (from ≤ to) × (to ≤ 64) ⌝ }
     ensures { λ _. ⌜ Between (λ i. stepSize mu (getD (now (power .entry)) i nan)) from to (now (steps .entry)) (now (steps .exit)) ⌝ }
 {
     let mut j = from;
     while j < to {
-        steps[j] = mu / (power[j] + 0.000001);
+        steps[j] = mu / (power[j] + EqualizeState::NLMS_EPS);
         j += 1;
     }
 }
 
-// How many samples from now on are in Cma, at most 64.
+// The smaller.
+pub fn least(a: usize, b: usize) -> usize
+    ensures { λ r. ⌜ r ≡ min a b ⌝ }
+{
+    if a < b { a } else { b }
+}
+
+// How many samples from now on are in Cma, at most RUN.
 fn cma_left(s: EqualizeState) -> usize
     ensures { λ r. ⌜ r ≡ cmaLeft s ⌝ }
 {
@@ -124,35 +133,28 @@ fn cma_left(s: EqualizeState) -> usize
     match m {
         EqMode::Decision => 0,
         EqMode::Cma => {
-            if p.cma_symbols == 4294967295 {
-                return 64;
+            if p.cma_symbols == EqParams::NEVER_SWITCH {
+                return RUN;
             }
             if p.cma_symbols <= s.count {
                 return 0;
             }
             let left = p.cma_symbols - s.count;
-            if left < 64 { left as usize } else { 64 }
+            least(RUN, left as usize)
         }
     }
 }
 
-// The smaller.
-fn least(a: usize, b: usize) -> usize
-    ensures { λ r. ⌜ (r ≤ a) × ((r ≤ b) × ((r < a) → r ≡ b)) ⌝ }
-{
-    if a < b { a } else { b }
-}
-
 // The step sizes, each by the mode that its sample will have.
-pub fn sizes(steps: &mut [f32; 64], power: &[f32; 64], s: EqualizeState, from: usize)
+pub fn sizes(steps: &mut [f32; RUN], power: &[f32; RUN], s: EqualizeState, from: usize)
     requires { ⌜ length (now steps) ≡ 64 ⌝ }
     requires { ⌜ from ≤ 64 ⌝ }
-    ensures { λ _. ⌜ Sized s (now (power .entry)) from (now (steps .exit)) ⌝ }
+    ensures { λ _. ⌜ StepSizes s (now (power .entry)) from (now (steps .exit)) ⌝ }
     ensures { λ _. ⌜ length (now (steps .exit)) ≡ 64 ⌝ }
 {
     let p = s.params;
-    let edge = 64 - cma_left(s);
+    let edge = RUN - cma_left(s);
     let low = least(from, edge);
     divide(steps, power, low, edge, p.mu_dd);
-    divide(steps, power, edge, 64, p.mu_cma);
+    divide(steps, power, edge, RUN, p.mu_cma);
 }

@@ -1,6 +1,6 @@
--- ChainLoop: a loop's step. Windows, Holding, Measuring, Absorbing: one sample, up to `sample-holds`.
+-- ChainLoop: a loop's step. Windows, Representation, Measurement, Sample: one sample, up to `sample-holds`.
 pub mod ChainLoop
 pub mod Windows
-pub mod Holding
-pub mod Measuring
-pub mod Absorbing
+pub mod Representation
+pub mod Measurement
+pub mod Sample

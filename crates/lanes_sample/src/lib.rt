@@ -50,9 +50,9 @@ pub fn measure(
     let bt = back - front;
     let half = m / 2;
     let p1 = chain(q, back, half, forward);
-    let re = lanes_filter::sum_re(xr, xi, wr, wi, at, lanes, bt, more);
+    let re = lanes_filter::dot_split_re(xr, xi, wr, wi, at, lanes, bt, more);
     let p2 = chain(q, back + half, m - half, p1);
-    let im = lanes_filter::sum_im(xr, xi, wr, wi, at, lanes, bt, more);
+    let im = lanes_filter::dot_split_im(xr, xi, wr, wi, at, lanes, bt, more);
     Measured {
         y: C32 { re, im },
         power: p2,

@@ -1,8 +1,5 @@
+-- `apart` says whether one of two floats is not finite: its test is that of `uneven`.
 use Rattle.lanes_adapt.specs.Steps.{uneven}
-use Prim.Native.Nat.{ℕ, _+_, _-_, _*_, _/_, _%_, _≤_, _<_}
-use mathlib.Core.Path.{_≡_, refl, sym, _∙_, ap}
-use lib.ListN.{length, getD, set, length-set}
-use native.Mathlib.Omega.{arith}
 use borrow.Author.Needs.{needs}
 use Rattle.lanes_adapt.proofs.apart.Statement.{statement}
 use Rattle.lanes_adapt.proofs.apart.Tie as tie

@@ -1,9 +1,10 @@
+-- `broken` says whether a weight of one half is not finite: each turn of its loop tests one lane.
 use lib.Ieee.{nan}
 use Rattle.lanes_adapt.specs.Steps.{brokenAt, brokenIn, anyOf}
 use Rattle.lanes_adapt.proofs.Loops.{any-none, any-more}
-use Prim.Native.Nat.{ℕ, _+_, _-_, _*_, _/_, _%_, _≤_, _<_}
-use mathlib.Core.Path.{_≡_, refl, sym, _∙_, ap}
-use lib.ListN.{length, getD, set, length-set}
+use Prim.Native.Nat.{_+_, _-_, _≤_}
+use mathlib.Core.Path.{_≡_}
+use lib.ListN.{getD}
 use native.Mathlib.Omega.{arith}
 use borrow.Author.Needs.{needs}
 use Rattle.lanes_adapt.proofs.broken.Statement.{statement}

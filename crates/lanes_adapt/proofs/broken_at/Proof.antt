@@ -1,9 +1,5 @@
-use Rattle.lanes_adapt.specs.Steps.{uneven}
+-- `broken_at` says whether a weight's lane is not finite: by what `apart` says.
 use Rattle.lanes_adapt.specs.Steps.{brokenAt}
-use Prim.Native.Nat.{ℕ, _+_, _-_, _*_, _/_, _%_, _≤_, _<_}
-use mathlib.Core.Path.{_≡_, refl, sym, _∙_, ap}
-use lib.ListN.{length, getD, set, length-set}
-use native.Mathlib.Omega.{arith}
 use borrow.Author.Needs.{needs}
 use Rattle.lanes_adapt.proofs.broken_at.Statement.{statement}
 use Rattle.lanes_adapt.proofs.broken_at.Tie as tie

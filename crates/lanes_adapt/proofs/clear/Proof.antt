@@ -1,9 +1,5 @@
+-- `clear` gives +0 for padding, and for each lane where all start anew: its test is that of `clearOf`.
 use Rattle.lanes_adapt.specs.Steps.{clearOf}
-use Prim.Native.Nat.{ℕ, _+_, _-_, _*_, _/_, _%_, _≤_, _<_}
-use mathlib.Core.Path.{_≡_, refl, sym, _∙_, ap}
-use lib.ListN.{length, getD, set, length-set}
-use native.Mathlib.Omega.{arith}
-use borrow.Author.Needs.{needs}
 use Rattle.lanes_adapt.proofs.clear.Statement.{statement}
 use Rattle.lanes_adapt.proofs.clear.Tie as tie
 

@@ -1,21 +1,22 @@
-use Rattle.lanes_adapt.specs.Steps.{clearIn, Mapped}
-use Rattle.lanes_adapt.proofs.Loops.{mapped-none, mapped-more}
-use Prim.Native.Nat.{ℕ, _+_, _-_, _*_, _/_, _%_, _≤_, _<_}
-use mathlib.Core.Path.{_≡_, refl, sym, _∙_, ap}
-use lib.ListN.{length, getD, set, length-set}
+-- `cleared` clears the lanes of one half: each turn of its loop clears one.
+use Rattle.lanes_adapt.specs.Steps.{clearIn, Replaced}
+use Rattle.lanes_adapt.proofs.Loops.{replaced-none, replaced-more}
+use Prim.Native.Nat.{_+_, _-_, _≤_}
+use mathlib.Core.Path.{_≡_, _∙_}
+use lib.ListN.{length}
 use native.Mathlib.Omega.{arith}
 use borrow.Author.Needs.{needs}
 use Rattle.lanes_adapt.proofs.cleared.Statement.{statement}
 use Rattle.lanes_adapt.proofs.cleared.Tie as tie
 
 abbrev Inv-loop : tie.InvT-loop
-Inv-loop w₀ limit from all i₀ w i = (i ≤ 72) × ((length w₀ ≡ 144) × Mapped (clearIn w₀ limit all from) from i w₀ w)
+Inv-loop w₀ limit from all i₀ w i = (i ≤ 72) × ((length w₀ ≡ 144) × Replaced (clearIn w₀ limit all from) from i w₀ w)
 
 abbrev μ-loop : tie.MeasureT-loop
 μ-loop w₀ limit from all i₀ w i = 72 - i
 
 loop-holds : tie.Need-loop-holds Inv-loop μ-loop
-loop-holds c = (search needs, (search needs, mapped-none _ _ _))
+loop-holds c = (search needs, (search needs, replaced-none _ _ _))
 
 add-k : tie.Need-add-k Inv-loop μ-loop
 add-k c = search needs
@@ -51,7 +52,7 @@ loop-again : tie.Need-loop-again Inv-loop μ-loop
 loop-again c =
     let l = c .before .before .before .before .loop in
     let v = l .inv in
-    (omega arith, (v .1 .0, mapped-more _ _ _ _ (c .clear .ensures ∙ rw (v .1 .1 .high (c .before .before .before .before .before .args .from + l .i) (omega arith))) (omega (arith, v .1 .1 .long)) (v .1 .1)))
+    (omega arith, (v .1 .0, replaced-more _ _ _ _ (c .clear .ensures ∙ rw (v .1 .1 .high (c .before .before .before .before .before .args .from + l .i) (omega arith))) (omega (arith, v .1 .1 .long)) (v .1 .1)))
 
 returns : tie.Need-returns Inv-loop μ-loop
 returns c =

@@ -1,9 +1,5 @@
+-- `kept` gives +0 for a value within its limit: its test is that of `keptOf`.
 use Rattle.lanes_adapt.specs.Steps.{keptOf}
-use Prim.Native.Nat.{ℕ, _+_, _-_, _*_, _/_, _%_, _≤_, _<_}
-use mathlib.Core.Path.{_≡_, refl, sym, _∙_, ap}
-use lib.ListN.{length, getD, set, length-set}
-use native.Mathlib.Omega.{arith}
-use borrow.Author.Needs.{needs}
 use Rattle.lanes_adapt.proofs.kept.Statement.{statement}
 use Rattle.lanes_adapt.proofs.kept.Tie as tie
 

@@ -1,9 +1,5 @@
-use Rattle.lanes_adapt.proofs.Adapting.{settled}
-use Prim.Native.Nat.{ℕ, _+_, _-_, _*_, _/_, _%_, _≤_, _<_}
-use mathlib.Core.Path.{_≡_, refl, sym, _∙_, ap}
-use lib.ListN.{length, getD, set, length-set}
-use native.Mathlib.Omega.{arith}
-use borrow.Author.Needs.{needs}
+-- `settle` clears padding, or all lanes with the centre set to 1: by what `broken`, `cleared` and `start_split` leave in turn.
+use Rattle.lanes_adapt.proofs.Adaptation.{settled}
 use borrow.Author.Needs.{needs}
 use Rattle.lanes_adapt.proofs.settle.Statement.{statement}
 use Rattle.lanes_adapt.proofs.settle.Tie as tie
@@ -26,15 +22,15 @@ cleared-requires-3 c κs = search needs
 cleared-requires-4 : tie.Need-cleared-requires-4
 cleared-requires-4 c κs = search needs
 
-start-requires : tie.Need-start-requires
-start-requires c κs = search needs
+start-split-requires : tie.Need-start-split-requires
+start-split-requires c κs = search needs
 
 returns : tie.Need-returns
 returns c =
     settled _ _ _ _ _ _ _ _ _ _ _ (c .before .before .before .before .before .before .before .before .before .before .before .before .before .broken .ensures)
     (c .before .before .before .before .before .before .before .before .before .before .broken2 .ensures)
     (c .before .before .before .before .before .before .before .before .cleared .ensures) (c .before .before .before .before .before .before .cleared2 .ensures)
-    (c .before .before .before .before .cleared3 .ensures) (c .before .before .cleared4 .ensures) (c .start .ensures)
+    (c .before .before .before .before .cleared3 .ensures) (c .before .before .cleared4 .ensures) (c .start-split .ensures)
 
 pub settle-spec : {M : Type 1} → statement M
 settle-spec =
@@ -46,5 +42,5 @@ settle-spec =
     cleared-requires-2
     cleared-requires-3
     cleared-requires-4
-    start-requires
+    start-split-requires
     returns)

@@ -1,8 +1,5 @@
+-- `step_im` gives the imaginary part of a lane after the step: by what `kept` gives.
 use Rattle.lanes_adapt.specs.Steps.{laneIm}
-use Prim.Native.Nat.{ℕ, _+_, _-_, _*_, _/_, _%_, _≤_, _<_}
-use mathlib.Core.Path.{_≡_, refl, sym, _∙_, ap}
-use lib.ListN.{length, getD, set, length-set}
-use native.Mathlib.Omega.{arith}
 use borrow.Author.Needs.{needs}
 use Rattle.lanes_adapt.proofs.step_im.Statement.{statement}
 use Rattle.lanes_adapt.proofs.step_im.Tie as tie

@@ -1,9 +1,8 @@
+-- `blocks_im` adds the products of all lanes to the partial sums: each turn of its loop is a block of eight.
 use Rattle.lanes_filter.specs.Split.{splitIm, Onto}
-use Rattle.dot.specs.Added.{Added}
 use Rattle.lanes_filter.proofs.Blocks.{onto-none, onto-more}
-use Prim.Native.Nat.{ℕ, _+_, _-_, _*_, _/_, _%_, _≤_, _<_}
-use mathlib.Core.Path.{_≡_, refl, sym, _∙_, ap}
-use lib.ListN.{length, getD, set, length-set}
+use Prim.Native.Nat.{_-_, _%_, _≤_}
+use mathlib.Core.Path.{_≡_}
 use native.Mathlib.Omega.{arith}
 use borrow.Author.Needs.{needs}
 use Rattle.lanes_filter.proofs.blocks_im.Statement.{statement}

@@ -1,9 +1,5 @@
+-- `limit_of` gives the limit of a lane: its tests are those of `limitAt`.
 use Rattle.lanes_load.proofs.LaneLimits.{limit-forth, limit-early, limit-in, limit-late}
-use Prim.Native.Nat.{ℕ, _+_, _-_, _*_, _/_, _%_, _≤_, _<_}
-use mathlib.Core.Path.{_≡_, refl, sym, _∙_, ap}
-use lib.ListN.{length, getD, set, length-set}
-use native.Mathlib.Omega.{arith}
-use borrow.Author.Needs.{needs}
 use Rattle.lanes_load.proofs.limit_of.Statement.{statement}
 use Rattle.lanes_load.proofs.limit_of.Tie as tie
 

@@ -1,10 +1,11 @@
+-- `limits` gives each lane its limit: each turn of its loop sets one place, and by index these are the limits of both halves.
 use Rattle.lanes.specs.Between.{Between}
 use Rattle.lanes_load.specs.Load.{limitAt}
 use Rattle.lanes.proofs.Between.{between-none, between-more}
 use Rattle.lanes_load.proofs.LaneLimits.{limits-are}
-use Prim.Native.Nat.{ℕ, _+_, _-_, _*_, _/_, _%_, _≤_, _<_}
-use mathlib.Core.Path.{_≡_, refl, sym, _∙_, ap}
-use lib.ListN.{length, getD, set, length-set}
+use Prim.Native.Nat.{_+_, _-_, _≤_}
+use mathlib.Core.Path.{_≡_}
+use lib.ListN.{length, length-set}
 use native.Mathlib.Omega.{arith}
 use borrow.Author.Needs.{needs}
 use Rattle.lanes_load.proofs.limits.Statement.{statement}

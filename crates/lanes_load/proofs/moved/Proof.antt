@@ -1,9 +1,10 @@
+-- `moved` moves the values up, the last one first: what a turn of its loop reads, no turn before has written.
 use lib.Ieee.{nan}
 use Rattle.lanes.specs.Between.{Between}
 use Rattle.lanes.proofs.Between.{between-none, between-move}
-use Prim.Native.Nat.{ℕ, _+_, _-_, _*_, _/_, _%_, _≤_, _<_}
-use mathlib.Core.Path.{_≡_, refl, sym, _∙_, ap}
-use lib.ListN.{length, getD, set, length-set}
+use Prim.Native.Nat.{_+_, _-_, _≤_}
+use mathlib.Core.Path.{_≡_}
+use lib.ListN.{length, getD}
 use native.Mathlib.Omega.{arith}
 use borrow.Author.Needs.{needs}
 use Rattle.lanes_load.proofs.moved.Statement.{statement}

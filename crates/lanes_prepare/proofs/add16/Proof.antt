@@ -1,9 +1,10 @@
+-- `add16` adds sixteen values to sixteen sums: each turn of its loop adds one.
 use lib.Ieee.{nan}
 use Rattle.dot.specs.Added.{Added}
 use Rattle.dot.proofs.Lanes.{added-none, added-more}
-use Prim.Native.Nat.{ℕ, _+_, _-_, _*_, _/_, _%_, _≤_, _<_}
-use mathlib.Core.Path.{_≡_, refl, sym, _∙_, ap}
-use lib.ListN.{length, getD, set, length-set}
+use Prim.Native.Nat.{_-_, _≤_}
+use mathlib.Core.Path.{_≡_, refl}
+use lib.ListN.{length, getD}
 use native.Mathlib.Omega.{arith}
 use borrow.Author.Needs.{needs}
 use Rattle.lanes_prepare.proofs.add16.Statement.{statement}

@@ -1,9 +1,6 @@
-use Rattle.lanes_prepare.proofs.Clocks.{left-decision, left-never, left-none, left-some, left-all}
-use Prim.Native.Nat.{ℕ, _+_, _-_, _*_, _/_, _%_, _≤_, _<_}
-use mathlib.Core.Path.{_≡_, refl, sym, _∙_, ap}
-use lib.ListN.{length, getD, set, length-set}
-use native.Mathlib.Omega.{arith}
+-- `cma_left` gives the samples that are left in Cma: its exits are the cases of `leftIn`.
 use borrow.Author.Needs.{needs}
+use Rattle.lanes_prepare.proofs.Clock.{left-decision, left-never, left-none, left-least}
 use Rattle.lanes_prepare.proofs.cma_left.Statement.{statement}
 use Rattle.lanes_prepare.proofs.cma_left.Tie as tie
 
@@ -14,25 +11,25 @@ enum-told-2 : tie.Need-enum-told-2
 enum-told-2 c = search needs
 
 returns : tie.Need-returns
-returns c = search (left-never, left-all)
+returns c = search left-never
 
 returns-2 : tie.Need-returns-2
-returns-2 c = search (left-decision, left-none)
+returns-2 c = search left-none
 
 sub-left : tie.Need-sub-left
 sub-left c = search needs
 
-cast-result : tie.Need-cast-result
-cast-result c = search needs
+cast-least : tie.Need-cast-least
+cast-least c = search needs
+
+least-requires : tie.Need-least-requires
+least-requires c κs = search needs
 
 returns-3 : tie.Need-returns-3
-returns-3 c = search (left-decision, left-none)
+returns-3 c = search left-decision
 
 returns-4 : tie.Need-returns-4
-returns-4 c = search left-some
-
-returns-5 : tie.Need-returns-5
-returns-5 c = search (left-never, left-all)
+returns-4 c = search left-least
 
 pub cma-left-spec : {M : Type 1} → statement M
 cma-left-spec =
@@ -43,7 +40,7 @@ cma-left-spec =
     returns
     returns-2
     sub-left
-    cast-result
+    cast-least
+    least-requires
     returns-3
-    returns-4
-    returns-5)
+    returns-4)

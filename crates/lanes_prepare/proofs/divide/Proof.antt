@@ -1,10 +1,11 @@
+-- `divide` gives the step sizes of the windows from .. to: each turn of its loop sets one.
 use lib.Ieee.{nan}
 use Rattle.definition.specs.Sample.{stepSize}
 use Rattle.lanes.specs.Between.{Between}
 use Rattle.lanes.proofs.Between.{between-none, between-more}
-use Prim.Native.Nat.{ℕ, _+_, _-_, _*_, _/_, _%_, _≤_, _<_}
-use mathlib.Core.Path.{_≡_, refl, sym, _∙_, ap}
-use lib.ListN.{length, getD, set, length-set}
+use Prim.Native.Nat.{_-_, _≤_}
+use mathlib.Core.Path.{_≡_, refl}
+use lib.ListN.{length, getD}
 use native.Mathlib.Omega.{arith}
 use borrow.Author.Needs.{needs}
 use Rattle.lanes_prepare.proofs.divide.Statement.{statement}

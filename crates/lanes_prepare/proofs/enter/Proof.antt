@@ -1,24 +1,19 @@
-use lib.Ieee.{nan}
-use Rattle.lanes.specs.Between.{Between}
-use Rattle.lanes_prepare.specs.Ahead.{enteredRe, enteredIm}
-use Rattle.lanes.proofs.Between.{between-none, between-down}
-use Rattle.lanes_prepare.proofs.Entering.{Entering, entering-none, entering-more, entering-all}
-use Prim.Native.Nat.{ℕ, _+_, _-_, _*_, _/_, _%_, _≤_, _<_}
-use mathlib.Core.Path.{_≡_, refl, sym, _∙_, ap}
-use lib.ListN.{length, getD, set, length-set}
+-- `enter` puts the samples of a run in, newest first: each turn of its loop puts one in, by the law of that loop.
+use Rattle.lanes_prepare.proofs.Entry.{Entry, entry-none, entry-more, entry-all}
+use Prim.Native.Nat.{_-_}
 use native.Mathlib.Omega.{arith}
 use borrow.Author.Needs.{needs}
 use Rattle.lanes_prepare.proofs.enter.Statement.{statement}
 use Rattle.lanes_prepare.proofs.enter.Tie as tie
 
 abbrev Inv-loop : tie.InvT-loop
-Inv-loop xr₀ xi₀ input len k₀ xr xi k = Entering input len xr₀ xi₀ k xr xi
+Inv-loop xr₀ xi₀ input len k₀ xr xi k = Entry input len xr₀ xi₀ k xr xi
 
 abbrev μ-loop : tie.MeasureT-loop
 μ-loop xr₀ xi₀ input len k₀ xr xi k = len - k
 
 loop-holds : tie.Need-loop-holds Inv-loop μ-loop
-loop-holds c = entering-none _ _ _ _ (search needs) (search needs) (search needs) (omega arith)
+loop-holds c = entry-none _ _ _ _ (search needs) (search needs) (search needs) (omega arith)
 
 mul-a : tie.Need-mul-a Inv-loop μ-loop
 mul-a c = search needs
@@ -53,6 +48,9 @@ held-requires c κs = search needs
 sub-xr : tie.Need-sub-xr Inv-loop μ-loop
 sub-xr c = search needs
 
+sub-xr-2 : tie.Need-sub-xr-2 Inv-loop μ-loop
+sub-xr-2 c = search needs
+
 mul-xr : tie.Need-mul-xr Inv-loop μ-loop
 mul-xr c = search needs
 
@@ -64,6 +62,9 @@ held-requires-2 c κs = search needs
 
 sub-xi : tie.Need-sub-xi Inv-loop μ-loop
 sub-xi c = search needs
+
+sub-xi-2 : tie.Need-sub-xi-2 Inv-loop μ-loop
+sub-xi-2 c = search needs
 
 mul-xi : tie.Need-mul-xi Inv-loop μ-loop
 mul-xi c = search needs
@@ -80,10 +81,10 @@ loop-less c = search needs
 loop-again : tie.Need-loop-again Inv-loop μ-loop
 loop-again c =
     let s = c .before .before .before .before .before .before .before .loop .inv in
-    entering-more _ _ _ _ _ _ _ _ _ _ _ s (search needs) (c .before .before .before .is-finite .ensures) (c .before .before .is-finite2 .ensures) (c .before .held .ensures) (c .held2 .ensures)
+    entry-more _ _ _ _ _ _ _ _ _ _ _ s (search needs) (c .before .before .before .is-finite .ensures) (c .before .before .is-finite2 .ensures) (c .before .held .ensures) (c .held2 .ensures)
 
 returns : tie.Need-returns Inv-loop μ-loop
-returns c = search entering-all
+returns c = search entry-all
 
 pub enter-spec : {M : Type 1} → statement M
 enter-spec =
@@ -103,10 +104,12 @@ enter-spec =
     is-finite-requires-2
     held-requires
     sub-xr
+    sub-xr-2
     mul-xr
     element-write-xr
     held-requires-2
     sub-xi
+    sub-xi-2
     mul-xi
     element-write-xi
     add-k

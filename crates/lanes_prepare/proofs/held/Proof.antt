@@ -1,9 +1,5 @@
-use Rattle.lanes_prepare.specs.Ahead.{heldOf}
-use Prim.Native.Nat.{ℕ, _+_, _-_, _*_, _/_, _%_, _≤_, _<_}
-use mathlib.Core.Path.{_≡_, refl, sym, _∙_, ap}
-use lib.ListN.{length, getD, set, length-set}
-use native.Mathlib.Omega.{arith}
-use borrow.Author.Needs.{needs}
+-- `held` gives +0 for a part of a sample that is not finite: its test is that of `heldOf`.
+use Rattle.lanes_prepare.specs.Entered.{heldOf}
 use Rattle.lanes_prepare.proofs.held.Statement.{statement}
 use Rattle.lanes_prepare.proofs.held.Tie as tie
 

@@ -1,10 +1,10 @@
-use lib.Ieee.{nan}
+-- `powers` gives the powers of the windows from `from` on: each turn of its loop is a tile of sixteen.
 use Rattle.lanes.specs.Between.{Between}
 use Rattle.lanes.specs.Powers.{chainOf}
 use Rattle.lanes.proofs.Between.{between-none, between-join}
-use Prim.Native.Nat.{ℕ, _+_, _-_, _*_, _/_, _%_, _≤_, _<_}
-use mathlib.Core.Path.{_≡_, refl, sym, _∙_, ap}
-use lib.ListN.{length, getD, set, length-set}
+use Prim.Native.Nat.{_-_, _%_, _≤_}
+use mathlib.Core.Path.{_≡_, _∙_}
+use lib.ListN.{length}
 use native.Mathlib.Omega.{arith}
 use borrow.Author.Needs.{needs}
 use Rattle.lanes_prepare.proofs.powers.Statement.{statement}

@@ -1,9 +1,10 @@
+-- `put16` stores sixteen sums: each turn of its loop stores one.
 use lib.Ieee.{nan}
 use Rattle.lanes.specs.Between.{Between}
 use Rattle.lanes.proofs.Between.{between-none, between-more}
-use Prim.Native.Nat.{ℕ, _+_, _-_, _*_, _/_, _%_, _≤_, _<_}
-use mathlib.Core.Path.{_≡_, refl, sym, _∙_, ap}
-use lib.ListN.{length, getD, set, length-set}
+use Prim.Native.Nat.{ℕ, _+_, _-_, _≤_}
+use mathlib.Core.Path.{_≡_, ap}
+use lib.ListN.{length, getD}
 use native.Mathlib.Omega.{arith}
 use borrow.Author.Needs.{needs}
 use Rattle.lanes_prepare.proofs.put16.Statement.{statement}

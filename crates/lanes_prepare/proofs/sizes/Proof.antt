@@ -1,7 +1,6 @@
-use Rattle.lanes_prepare.proofs.Clocks.{left-most, sized}
-use Prim.Native.Nat.{ℕ, _+_, _-_, _*_, _/_, _%_, _≤_, _<_}
-use mathlib.Core.Path.{_≡_, refl, sym, _∙_, ap}
-use lib.ListN.{length, getD, set, length-set}
+-- `sizes` gives each window the step size of the mode that its sample will have: by what the two calls of `divide` leave.
+use Rattle.lanes_prepare.proofs.Clock.{left-most, step-sizes}
+use mathlib.Core.Path.{_∙_}
 use native.Mathlib.Omega.{arith}
 use borrow.Author.Needs.{needs}
 use Rattle.lanes_prepare.proofs.sizes.Statement.{statement}
@@ -28,7 +27,7 @@ returns : tie.Need-returns
 returns c =
     let l = c .before .before .before .before .least .ensures in
     let d = c .before .before .divide .ensures in
-    (sized _ _ _ _ _ _ _ _ (c .before .before .before .before .before .cma-left .ensures) (l .0) (l .1 .0) d (c .divide2 .ensures), c .divide2 .ensures .long ∙ d .long ∙ c .before .before .before .before .before .before .before .pre .0)
+    (step-sizes _ _ _ _ _ _ _ _ (c .before .before .before .before .before .cma-left .ensures) (omega (arith, l)) (omega (arith, l)) d (c .divide2 .ensures), c .divide2 .ensures .long ∙ d .long ∙ c .before .before .before .before .before .before .before .pre .0)
 
 pub sizes-spec : {M : Type 1} → statement M
 sizes-spec =

@@ -1,10 +1,10 @@
-use lib.Ieee.{nan}
+-- `squares` replaces the places from .. to by squares: each turn of its loop sets one.
 use Rattle.lanes.specs.Between.{Between}
 use Rattle.lanes.specs.Powers.{squareAt}
 use Rattle.lanes.proofs.Between.{between-none, between-more}
-use Prim.Native.Nat.{ℕ, _+_, _-_, _*_, _/_, _%_, _≤_, _<_}
-use mathlib.Core.Path.{_≡_, refl, sym, _∙_, ap}
-use lib.ListN.{length, getD, set, length-set}
+use Prim.Native.Nat.{_-_, _≤_}
+use mathlib.Core.Path.{_≡_, refl}
+use lib.ListN.{length}
 use native.Mathlib.Omega.{arith}
 use borrow.Author.Needs.{needs}
 use Rattle.lanes_prepare.proofs.squares.Statement.{statement}

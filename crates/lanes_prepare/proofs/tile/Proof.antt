@@ -1,8 +1,7 @@
-use lib.Ieee.{nan}
+-- `tile` gives the powers of sixteen windows: each turn of its loop adds one square to each, and the sums are stored.
 use Rattle.lanes_prepare.proofs.Chains.{Chained, chained-none, chained-more, chained-put}
-use Prim.Native.Nat.{ℕ, _+_, _-_, _*_, _/_, _%_, _≤_, _<_}
-use mathlib.Core.Path.{_≡_, refl, sym, _∙_, ap}
-use lib.ListN.{length, getD, set, length-set}
+use Prim.Native.Nat.{_-_, _≤_}
+use mathlib.Core.Path.{_≡_}
 use native.Mathlib.Omega.{arith}
 use borrow.Author.Needs.{needs}
 use Rattle.lanes_prepare.proofs.tile.Statement.{statement}

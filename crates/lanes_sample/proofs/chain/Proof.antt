@@ -1,9 +1,8 @@
-use lib.Ieee.{nan}
+-- `chain` adds squares in order: each turn of its loop adds one.
 use Rattle.lanes.specs.Powers.{chainFrom}
 use Rattle.lanes_sample.proofs.ChainLoop.{chain-none, chain-more}
-use Prim.Native.Nat.{ℕ, _+_, _-_, _*_, _/_, _%_, _≤_, _<_}
-use mathlib.Core.Path.{_≡_, refl, sym, _∙_, ap}
-use lib.ListN.{length, getD, set, length-set}
+use Prim.Native.Nat.{_-_, _≤_}
+use mathlib.Core.Path.{_≡_}
 use native.Mathlib.Omega.{arith}
 use borrow.Author.Needs.{needs}
 use Rattle.lanes_sample.proofs.chain.Statement.{statement}

@@ -1,8 +1,5 @@
-use Rattle.lanes_sample.proofs.Measuring.{measured}
-use Prim.Native.Nat.{ℕ, _+_, _-_, _*_, _/_, _%_, _≤_, _<_}
-use mathlib.Core.Path.{_≡_, refl, sym, _∙_, ap}
-use lib.ListN.{length, getD, set, length-set}
-use native.Mathlib.Omega.{arith}
+-- `measure` gives the filter sum and the power of a window: by what `dot_split_re`, `dot_split_im` and the two parts of `chain` give.
+use Rattle.lanes_sample.proofs.Measurement.{measured}
 use borrow.Author.Needs.{needs}
 use Rattle.lanes_sample.proofs.measure.Statement.{statement}
 use Rattle.lanes_sample.proofs.measure.Tie as tie
@@ -16,8 +13,8 @@ sub-bt c = search needs
 chain-requires : tie.Need-chain-requires
 chain-requires c κs = search needs
 
-sum-re-requires : tie.Need-sum-re-requires
-sum-re-requires c κs = search needs
+dot-split-re-requires : tie.Need-dot-split-re-requires
+dot-split-re-requires c κs = search needs
 
 add-chain : tie.Need-add-chain
 add-chain c = search needs
@@ -28,11 +25,11 @@ sub-chain c = search needs
 chain-requires-2 : tie.Need-chain-requires-2
 chain-requires-2 c κs = search needs
 
-sum-im-requires : tie.Need-sum-im-requires
-sum-im-requires c κs = search needs
+dot-split-im-requires : tie.Need-dot-split-im-requires
+dot-split-im-requires c κs = search needs
 
 returns : tie.Need-returns
-returns c = measured _ _ _ _ _ _ _ _ _ _ _ _ _ _ _ (c .before .before .before .before .pre .0 .0) (c .before .before .before .chain .ensures) (c .before .before .sum-re .ensures) (c .before .chain2 .ensures) (c .sum-im .ensures)
+returns c = measured _ _ _ _ _ _ _ _ _ _ _ _ _ _ _ (c .before .before .before .before .pre .0 .0) (c .before .before .before .chain .ensures) (c .before .before .dot-split-re .ensures) (c .before .chain2 .ensures) (c .dot-split-im .ensures)
 
 pub measure-spec : {M : Type 1} → statement M
 measure-spec =
@@ -41,9 +38,9 @@ measure-spec =
     add-back
     sub-bt
     chain-requires
-    sum-re-requires
+    dot-split-re-requires
     add-chain
     sub-chain
     chain-requires-2
-    sum-im-requires
+    dot-split-im-requires
     returns)

@@ -19,12 +19,12 @@ use Rattle.definition.specs.Slices.{reAt, imAt, newRe, newIm, updated, every, s
 use Rattle.definition.specs.Sample.{adapted, resetUnless}
 use Rattle.definition_laws.proofs.Parts.{is-true, is-false}
 use Rattle.definition_laws.proofs.Every.{length-updated, length-start, every-at}
-use Rattle.lanes_adapt.specs.Steps.{uneven, stepRe, stepIm, anyOf, brokenIn, clearIn, Mapped, Within}
+use Rattle.lanes_adapt.specs.Steps.{uneven, stepRe, stepIm, anyOf, brokenIn, clearIn, Replaced, Within}
 use Rattle.lanes.specs.Holds.{Lies, Half, Weights}
 use Rattle.lanes_adapt.specs.Settled.{startIn, ruined, Settled}
 use Rattle.lanes.specs.Adapts.{Ready, Adapts}
 use Rattle.lanes_adapt.proofs.Tests.{or-left, or-right}
-use Rattle.lanes_adapt.proofs.Updating.{updated-re, updated-im, start-one, start-zero, start-im, all-fine}
+use Rattle.lanes_adapt.proofs.Update.{updated-re, updated-im, start-one, start-zero, start-im, all-fine}
 use Rattle.lanes_adapt.proofs.Loops.{within-first, within-second, within-cleared}
 use Rattle.lanes.proofs.Places.{half-kept}
 use Rattle.lanes_adapt.proofs.HalfStep.{calm-half, calm-fine, whole-fine, fine-whole, cleared-half, cleared-all}
@@ -89,8 +89,8 @@ module _ (wr wi limit : List Float) (z : ruined wr wi limit ≡ false) where
 
 -- from wr, wi by the forward step to vr, vi, and by the feedback step to wr′, wi′
 module _ (wr wi limit xr xi : List Float) (at lanes bt more centre : ℕ) (gr gi : Float) (vr vi wr′ wi′ : List Float)
-    (mr : Mapped (stepRe wr limit xr xi at 0 gr gi) 0 lanes wr vr) (mi : Mapped (stepIm wi limit xr xi at 0 gr gi) 0 lanes wi vi)
-    (br : Mapped (stepRe vr limit xr xi bt 72 gr gi) 72 more vr wr′) (bi : Mapped (stepIm vi limit xr xi bt 72 gr gi) 72 more vi wi′) where
+    (mr : Replaced (stepRe wr limit xr xi at 0 gr gi) 0 lanes wr vr) (mi : Replaced (stepIm wi limit xr xi at 0 gr gi) 0 lanes wi vi)
+    (br : Replaced (stepRe vr limit xr xi bt 72 gr gi) 72 more vr wr′) (bi : Replaced (stepIm vi limit xr xi bt 72 gr gi) 72 more vi wi′) where
   module _ (n m : ℕ) (w h : List Float) (r : Ready n m wr wi limit xr xi at lanes bt more centre w h) where
     lies : Lies xr xi (at + 0) h 0 n
     lies = let e : at + 0 ≡ at = omega arith in rw e (r .window .forth)
@@ -214,8 +214,8 @@ module _ (wr wi limit xr xi : List Float) (at lanes bt more centre : ℕ) (gr gi
 
 -- ---- the exit of `settle`
 pub settled : (wr wi limit : List Float) (centre : ℕ) (b1 b2 : Bool) (wr₁ wi₁ wr₂ wr′ wi′ : List Float) → b1 ≡ brokenIn wr wi limit 0 → b2 ≡ brokenIn wr wi limit 72
-    → Mapped (clearIn wr limit (b1 || b2) 0) 0 72 wr wr₁ → Mapped (clearIn wi limit (b1 || b2) 0) 0 72 wi wi₁
-    → Mapped (clearIn wr₁ limit (b1 || b2) 72) 72 72 wr₁ wr₂ → Mapped (clearIn wi₁ limit (b1 || b2) 72) 72 72 wi₁ wi′
+    → Replaced (clearIn wr limit (b1 || b2) 0) 0 72 wr wr₁ → Replaced (clearIn wi limit (b1 || b2) 0) 0 72 wi wi₁
+    → Replaced (clearIn wr₁ limit (b1 || b2) 72) 72 72 wr₁ wr₂ → Replaced (clearIn wi₁ limit (b1 || b2) 72) 72 72 wi₁ wi′
     → wr′ ≡ startIn (b1 || b2) centre wr₂ → Settled wr wi limit centre wr′ wi′
 settled wr wi limit centre b1 b2 wr₁ wi₁ wr₂ wr′ wi′ e f r1 i1 r2 i2 g =
     let all : (b1 || b2) ≡ ruined wr wi limit = unfold ruined in rw (e, f) in

@@ -1,20 +1,20 @@
-use Rattle.lanes_adapt.proofs.Stepping.{Stepping, stepping-none, stepping-more}
-use Prim.Native.Nat.{ℕ, _+_, _-_, _*_, _/_, _%_, _≤_, _<_}
-use mathlib.Core.Path.{_≡_, refl, sym, _∙_, ap}
-use lib.ListN.{length, getD, set, length-set}
+-- `update_half` steps the lanes of one half and says whether one is not finite: each turn of its loop steps one lane, by the law of that loop.
+use Rattle.lanes_adapt.proofs.HalfLoop.{HalfLoop, half-none, half-more}
+use Prim.Native.Nat.{_-_}
+use mathlib.Core.Path.{_≡_}
 use native.Mathlib.Omega.{arith}
 use borrow.Author.Needs.{needs}
-use Rattle.lanes_adapt.proofs.lanes_step.Statement.{statement}
-use Rattle.lanes_adapt.proofs.lanes_step.Tie as tie
+use Rattle.lanes_adapt.proofs.update_half.Statement.{statement}
+use Rattle.lanes_adapt.proofs.update_half.Tie as tie
 
 abbrev Inv-loop : tie.InvT-loop
-Inv-loop wr₀ wi₀ limit xr xi at from lanes gr gi bad₀ i₀ wr wi bad i = Stepping wr₀ wi₀ limit xr xi at from gr gi lanes i wr wi bad
+Inv-loop wr₀ wi₀ limit xr xi at from lanes gr gi bad₀ i₀ wr wi bad i = HalfLoop wr₀ wi₀ limit xr xi at from gr gi lanes i wr wi bad
 
 abbrev μ-loop : tie.MeasureT-loop
 μ-loop wr₀ wi₀ limit xr xi at from lanes gr gi bad₀ i₀ wr wi bad i = lanes - i
 
 loop-holds : tie.Need-loop-holds Inv-loop μ-loop
-loop-holds c = stepping-none _ _ _ _ _ _ _ _ _ _ (search needs) (search needs) (search needs)
+loop-holds c = half-none _ _ _ _ _ _ _ _ _ _ (search needs) (search needs) (search needs)
 
 add-a : tie.Need-add-a Inv-loop μ-loop
 add-a c = search needs
@@ -89,7 +89,7 @@ loop-less : tie.Need-loop-less Inv-loop μ-loop
 loop-less c = search needs
 
 loop-again : tie.Need-loop-again Inv-loop μ-loop
-loop-again c = search stepping-more
+loop-again c = search half-more
 
 returns : tie.Need-returns Inv-loop μ-loop
 returns c =
@@ -97,8 +97,8 @@ returns c =
     let e : c .before .loop .i ≡ c .before .before .args .lanes = omega (arith, s .here) in
     (rw e at (s .re), (rw e at (s .im), rw e at (s .any)))
 
-pub lanes-step-spec : {M : Type 1} → statement M
-lanes-step-spec =
+pub update-half-spec : {M : Type 1} → statement M
+update-half-spec =
     tie.close
     (tie.spec
     Inv-loop

@@ -14,7 +14,7 @@ use Rattle.types.specs.declared.EqMode.the-variants.{Cma, Decision}
 use Rattle.types.specs.declared.EqualizeState.{EqualizeState}
 use Rattle.definition.specs.Sample.{neverSwitch, stepSize, advance, advanceIn}
 use Rattle.lanes.specs.Between.{Between}
-use Rattle.lanes_prepare.specs.Clock.{leftIn, cmaLeft, Sized, Clock}
+use Rattle.lanes_prepare.specs.Clock.{leftIn, cmaLeft, StepSizes, Clock}
 
 module _ (m : EqMode) (total count : ℕ) where
   pub left-decision : m ≡ Decision → 0 ≡ leftIn m total count
@@ -29,13 +29,9 @@ module _ (m : EqMode) (total count : ℕ) where
   unfolding leftIn
   left-none e f h = rw (e, ne-eqb total neverSwitch f) (let g : 0 ≡ min 64 (total - count) = omega arith in g)
 
-  pub left-some : m ≡ Cma → (total ≡ 4294967295 → ⊥) → total - count < 64 → total - count ≡ leftIn m total count
+  pub left-least : (r : ℕ) → m ≡ Cma → (total ≡ 4294967295 → ⊥) → r ≡ min 64 (total - count) → r ≡ leftIn m total count
   unfolding leftIn
-  left-some e f h = rw (e, ne-eqb total neverSwitch f) (let g : total - count ≡ min 64 (total - count) = omega arith in g)
-
-  pub left-all : m ≡ Cma → (total ≡ 4294967295 → ⊥) → 64 ≤ total - count → 64 ≡ leftIn m total count
-  unfolding leftIn
-  left-all e f h = rw (e, ne-eqb total neverSwitch f) (let g : 64 ≡ min 64 (total - count) = omega arith in g)
+  left-least r e f g = g ∙ rw (e, ne-eqb total neverSwitch f)
 
 pub left-most : (m : EqMode) (total count : ℕ) → leftIn m total count ≤ 64
 unfolding leftIn
@@ -46,10 +42,10 @@ left-most Cma total count = go (eqb total neverSwitch)
     go true = omega arith
     go false = omega arith
 
-pub sized : (s : EqualizeState) (power steps mid new : List Float) (from low left : ℕ) → left ≡ cmaLeft s → low ≤ from → low ≤ 64 - left
+pub step-sizes : (s : EqualizeState) (power steps mid new : List Float) (from low left : ℕ) → left ≡ cmaLeft s → low ≤ from → low ≤ 64 - left
     → Between (λ i. stepSize (s .params .«mu_dd») (getD power i nan)) low (64 - left) steps mid
-    → Between (λ i. stepSize (s .params .«mu_cma») (getD power i nan)) (64 - left) 64 mid new → Sized s power from new
-sized s power steps mid new from low left e l l′ a b =
+    → Between (λ i. stepSize (s .params .«mu_cma») (getD power i nan)) (64 - left) 64 mid new → StepSizes s power from new
+step-sizes s power steps mid new from low left e l l′ a b =
     let top = left-most (s .mode) (s .params .«cma_symbols») (s .count) in
     record {
       cma = λ j f h g. b .done j (omega arith) h;

@@ -20,7 +20,7 @@ use Rattle.lanes.specs.Holds.{Weights, Holds, Put, Limits, Shaped}
 use Rattle.lanes.specs.Adapts.{Ready, Adapts}
 use Rattle.lanes_sample.specs.Absorbs.{Absorbs}
 use Rattle.lanes_sample.specs.Measures.{Measures}
-use Rattle.lanes_sample.proofs.Holding.{holds-forward, holds-taps, window-is, squares-in, holds-next}
+use Rattle.lanes_sample.proofs.Representation.{holds-forward, holds-taps, window-is, squares-in, holds-next}
 
 pub absorbed : (u : Update) (fed : C32) (at quads mquads front centre : ℕ) (limit wr wi xr xi q wr′ wi′ xr′ xi′ q′ : List Float) → at ≤ 63
     → Adapts u wr wi limit xr xi at quads (at + 153 - front) mquads centre wr′ wi′
