@@ -101,7 +101,7 @@ fn hear(
     let u = r.update;
     let z = r.z;
     let fed = r.fed;
-    lanes_adapt::adapt(
+    lanes_adapt::update_split(
         u,
         wr,
         wi,

@@ -122,17 +122,6 @@ fn block(
     r
 }
 
-// The smaller, of two numbers that are not 0.
-fn least(a: usize, b: usize) -> usize
-    requires { ⌜ (0 < a) × (0 < b) ⌝ }
-    ensures { λ r. ⌜ (r ≤ a) × ((r ≤ b) × (0 < r)) ⌝ }
-{
-    if a < b {
-        return a;
-    }
-    b
-}
-
 // All runs of a call.
 fn runs(
     state: EqualizeState,
@@ -166,7 +155,7 @@ fn runs(
     let mut s = state;
     let mut i = 0usize;
     while i < marks.len() {
-        let len = least(marks.len() - i, 64);
+        let len = lanes_prepare::least(marks.len() - i, 64);
         let e = i + len;
         s = block(
             s,

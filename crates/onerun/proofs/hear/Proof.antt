@@ -13,11 +13,11 @@ sub-bt c = search needs
 follow-requires : tie.Need-follow-requires
 follow-requires c κs = search needs
 
-adapt-requires : tie.Need-adapt-requires
-adapt-requires c κs = search needs
+update-split-requires : tie.Need-update-split-requires
+update-split-requires c κs = search needs
 
 returns : tie.Need-returns
-returns c = (heard-exit _ _ (c .before .before .before .before .before .before .follow .ensures), (adapts-exit _ _ _ _ _ _ _ _ _ _ _ _ _ _ (c .before .before .before .before .before .before .follow .ensures) (c .adapt .ensures .0), lanes-exit _ _ (c .adapt .ensures .1)))
+returns c = (heard-exit _ _ (c .before .before .before .before .before .before .follow .ensures), (adapts-exit _ _ _ _ _ _ _ _ _ _ _ _ _ _ (c .before .before .before .before .before .before .follow .ensures) (c .update-split .ensures .0), lanes-exit _ _ (c .update-split .ensures .1)))
 
 pub hear-spec : {M : Type 1} → statement M
-hear-spec = tie.close (tie.spec add-bt sub-bt follow-requires adapt-requires returns)
+hear-spec = tie.close (tie.spec add-bt sub-bt follow-requires update-split-requires returns)
