@@ -16,7 +16,7 @@ pub enum DotComplex {
 }
 
 // The final sum of the eight partial sums.
-fn dot_complex_tree(a: &[f32; 8]) -> f32
+pub fn dot_complex_tree(a: &[f32; 8]) -> f32
     ensures { λ r. ⌜ r ≡ tree (λ k. getD (now (a .entry)) k nan) ⌝ }
 {
     ((a[0] + a[4]) + (a[2] + a[6])) + ((a[1] + a[5]) + (a[3] + a[7]))

@@ -7,7 +7,8 @@ use native.Mathlib.Nat.{add-zero, add-suc}
 use lib.Ieee.{Float}
 use Rattle.types.specs.Bits.{zero32}
 use Rattle.definition.specs.Slices.{power}
-use Rattle.lanes.specs.Ahead.{chainFrom, chainOf, squareAt, Between}
+use Rattle.lanes.specs.Powers.{chainFrom, chainOf, squareAt}
+use Rattle.lanes.specs.Between.{Between}
 use Rattle.lanes.specs.Holds.{Lies, Squares}
 
 -- the power of base taps, then count squares of q, is the power of base + count

@@ -8,6 +8,9 @@ ghost use lib.Ieee.Nearest.{closest};
 ghost use lib.Ieee.Scale.{finite};
 ghost use Rattle.definition.specs.Floats.{flush, clip as clipDef, narrow as narrowDef};
 
+// A value below this magnitude is flushed to +0.
+pub const TINY: f32 = 1e-30;
+
 // Whether x is neither a NaN nor an infinity: x - x is +0 then, and else a NaN.
 pub fn is_finite(x: f32) -> bool
     ensures { λ r. ⌜ r ≡ finite x ⌝ }

@@ -17,9 +17,9 @@ use Rattle.definition.specs.Rules.{acceptedDef, ruleR4}
 use Rattle.definition_laws.proofs.Kept.{advance-keeps}
 use Rattle.lanes.specs.Arrays.{Arrays, Long}
 use Rattle.lanes.specs.Holds.{Lies, Holds, Put}
-use Rattle.lanes.specs.Clock.{cmaLeft, Sized, Clock}
-use Rattle.lanes.proofs.Holding.{window-is}
-use Rattle.lanes.proofs.Clocks.{clock-none, clock-next}
+use Rattle.lanes_prepare.specs.Clock.{cmaLeft, StepSizes, Clock}
+use Rattle.lanes_sample.proofs.Representation.{window-is}
+use Rattle.lanes_prepare.proofs.Clock.{clock-none, clock-next}
 use Rattle.steps.specs.declared.Track.{Track}
 use Rattle.onerun.specs.declared.Shape.{Shape}
 use Rattle.steps.specs.declared.Sampled.{Sampled}
@@ -73,7 +73,7 @@ going-none s g limit a ps ss xs ys ms l c t i o = record {
 }
 
 -- the step size made ahead is that of the sample's own mode
-size-at : (s₀ s : EqualizeState) (ps ss : List Float) (from k : ℕ) → Sized s₀ ps from ss → Clock s₀ k s → k ≤ 63 → from ≤ 63 - k → Dec (k < cmaLeft s₀)
+size-at : (s₀ s : EqualizeState) (ps ss : List Float) (from k : ℕ) → StepSizes s₀ ps from ss → Clock s₀ k s → k ≤ 63 → from ≤ 63 - k → Dec (k < cmaLeft s₀)
     → getD ss (63 - k) nan ≡ stepSize (muOf (s .mode) (s .params)) (getD ps (63 - k) nan)
 size-at s₀ s ps ss from k z c l f (yes d) =
     let e : 63 - (63 - k) ≡ k = omega arith in

@@ -29,9 +29,9 @@ use Rattle.definition_laws.proofs.Accept.{accepted-parts}
 use Rattle.definition_laws.proofs.Kept.{advance-r4}
 use Rattle.lanes.specs.Arrays.{Arrays, arrays}
 use Rattle.lanes.specs.Holds.{Holds}
-use Rattle.lanes.specs.Measures.{Measures}
+use Rattle.lanes_sample.specs.Measures.{Measures}
 use Rattle.lanes.specs.Adapts.{Adapts}
-use Rattle.lanes.proofs.Absorbing.{absorbed, measure-is, sampleBy, sample-by, sample-holds}
+use Rattle.lanes_sample.proofs.Sample.{absorbed, measure-is, sampleBy, sample-by, sample-holds}
 use Rattle.steps.specs.declared.Track.{Track}
 use Rattle.steps.specs.declared.Stepped.{Stepped}
 use Rattle.onerun.specs.declared.Shape.{Shape}

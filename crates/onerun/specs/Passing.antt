@@ -16,9 +16,11 @@ use Rattle.definition.specs.Rules.{acceptedDef, ruleR4}
 use Rattle.definition.specs.Run.{runDef}
 use Rattle.lanes.specs.Arrays.{Arrays, arrays, Long}
 use Rattle.lanes.specs.Holds.{Lies, Holds, Put}
-use Rattle.lanes.specs.Ahead.{Between, squareAt, Entered}
-use Rattle.lanes.specs.Clock.{Sized}
-use Rattle.lanes.specs.Load.{Moved}
+use Rattle.lanes.specs.Between.{Between}
+use Rattle.lanes.specs.Powers.{squareAt}
+use Rattle.lanes_prepare.specs.Entered.{Entered}
+use Rattle.lanes_prepare.specs.Clock.{StepSizes}
+use Rattle.lanes_load.specs.Load.{Moved}
 use Rattle.onerun.specs.declared.Shape.{Shape}
 use Rattle.onerun.specs.Taken.{Lanes, Setting}
 
@@ -32,7 +34,7 @@ pub record Begins (s : EqualizeState) (n : ℕ) (xs xr xi sq xr′ xi′ sq′ p
   pub from : ℕ
   pub squared : Between (squareAt xr′ xi′) from (64 + n) sq sq′
   pub powers : Powered n (64 - length xs / 2) xr′ xi′ ps
-  pub sizes : Sized s ps (64 - length xs / 2) ss
+  pub sizes : StepSizes s ps (64 - length xs / 2) ss
 
 -- before a run over xs: the arrays hold record, weights and window, the samples are put in, and what depends on them alone is made
 pub record Begun (s : EqualizeState) (g : Shape) (n : ℕ) (limit : List Float) (a : Arrays) (ps ss xs w h : List Float) : Type 0 where
@@ -40,7 +42,7 @@ pub record Begun (s : EqualizeState) (g : Shape) (n : ℕ) (limit : List Float) 
   pub holds : Holds n (g .m) 64 a (equalizer s w h)
   pub puts : (k : ℕ) → k < length xs / 2 → Put (63 - k) (complex (reAt xs k) (imAt xs k)) (a .xr) (a .xi)
   pub powers : Powered n (64 - length xs / 2) (a .xr) (a .xi) ps
-  pub sizes : Sized s ps (64 - length xs / 2) ss
+  pub sizes : StepSizes s ps (64 - length xs / 2) ss
 
 -- after a run from q over xs: its outcome, and what the arrays hold of it, at p
 pub record Passed (n m p : ℕ) (q : Equalizer) (xs ys : List Float) (ms : List ℕ) (a : Arrays) (s : EqualizeState) : Type 0 where

@@ -72,7 +72,7 @@ fn hear(
     let bt = at + 153 - g.front;
     let r = steps::follow(s, t, y, forward, size);
     let u = r.update;
-    lanes::adapt::adapt(
+    lanes_adapt::update_split(
         u,
         wr,
         wi,
@@ -111,7 +111,7 @@ fn take(
         (arrays (now (wr .entry)) (now (wi .entry)) (now (xr .entry)) (now (xi .entry)) (now (q .entry)))
         (now (wr .exit)) (now (wi .exit)) r ⌝ }
 {
-    let f = lanes::run::measure(
+    let f = lanes_sample::measure(
         g.m,
         g.lanes,
         g.more,
@@ -164,7 +164,7 @@ fn sample(
     let track = r.track;
     let out = r.out;
     let mark = r.mark;
-    lanes::run::feed(xr, xi, q, at + 152, fed);
+    lanes_sample::feed(xr, xi, q, at + 152, fed);
     let state = record::mode::advance(steps::with_track(s, track));
     Sampled { state, out, mark }
 }

@@ -12,20 +12,22 @@ use Rattle.definition.specs.Packed.{equalizer}
 use Rattle.definition.specs.Rules.{acceptedDef}
 use Rattle.lanes.specs.Arrays.{Arrays, arrays, Long}
 use Rattle.lanes.specs.Holds.{Holds}
-use Rattle.lanes.specs.Ahead.{Between, Entered, squareAt, chainOf}
-use Rattle.lanes.specs.Clock.{Sized}
-use Rattle.lanes.proofs.Starting.{entered-put, entered-holds, ahead-is}
-use Rattle.lanes.proofs.Ending.{end-holds}
+use Rattle.lanes.specs.Between.{Between}
+use Rattle.lanes_prepare.specs.Entered.{Entered}
+use Rattle.lanes.specs.Powers.{squareAt, chainOf}
+use Rattle.lanes_prepare.specs.Clock.{StepSizes}
+use Rattle.lanes_prepare.proofs.Start.{entered-put, entered-holds, ahead-is}
+use Rattle.lanes_load.proofs.End.{end-holds}
 use Rattle.onerun.specs.declared.Shape.{Shape}
 use Rattle.onerun.specs.Taken.{Fits, Setting}
 use Rattle.onerun.specs.Passing.{Begins, Begun, Passed, Runs, Ends, Blocks}
 
 -- ---- `begin`
-sized-from : (s : EqualizeState) (ps ss : List Float) (from to : ℕ) → from ≤ to → Sized s ps from ss → Sized s ps to ss
+sized-from : (s : EqualizeState) (ps ss : List Float) (from to : ℕ) → from ≤ to → StepSizes s ps from ss → StepSizes s ps to ss
 sized-from s ps ss from to l z = record { cma = λ j f h g. z .cma j (omega arith) h g; decided = λ j f h g. z .decided j (omega arith) h g }
 
 pub begins : (s : EqualizeState) (n from : ℕ) (xs xr xi xr′ xi′ q₀ q p₀ ps ss : List Float) → from ≤ 64 - length xs / 2 → Entered xs xr xi xr′ xi′
-    → Between (squareAt xr′ xi′) from (64 + n) q₀ q → Between (λ i. chainOf q i n) from 64 p₀ ps → Sized s ps from ss → Begins s n xs xr xi q₀ xr′ xi′ q ps ss
+    → Between (squareAt xr′ xi′) from (64 + n) q₀ q → Between (λ i. chainOf q i n) from 64 p₀ ps → StepSizes s ps from ss → Begins s n xs xr xi q₀ xr′ xi′ q ps ss
 begins s n from xs xr xi xr′ xi′ q₀ q p₀ ps ss l e b p z = record {
   entered = e;
   from = from;

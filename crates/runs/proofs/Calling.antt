@@ -18,10 +18,11 @@ use Rattle.definition_laws.proofs.Parts.{is-true}
 use Rattle.definition_laws.proofs.Accept.{Accepted, accepted-parts, shape}
 use Rattle.lanes.specs.Arrays.{Arrays, arrays}
 use Rattle.lanes.specs.Holds.{Holds, Limits, Shaped}
-use Rattle.lanes.specs.Ahead.{Between, squareAt}
-use Rattle.lanes.specs.Load.{Loaded, Joined}
-use Rattle.lanes.proofs.Starting.{load-holds}
-use Rattle.lanes.proofs.Ending.{weights-back, window-back}
+use Rattle.lanes.specs.Between.{Between}
+use Rattle.lanes.specs.Powers.{squareAt}
+use Rattle.lanes_load.specs.Load.{Loaded, Joined}
+use Rattle.lanes_load.proofs.Load.{load-holds}
+use Rattle.lanes_load.proofs.Store.{weights-back, window-back}
 use Rattle.onerun.specs.declared.Shape.{Shape}
 use Rattle.onerun.specs.Taken.{Formed, Setting}
 use Rattle.onerun.specs.Passing.{Calls, Empty, Loads, Stores, Asked}

@@ -1,7 +1,7 @@
 // Blocks of samples in runs of 64: the caller's slices into the arrays, run after run, and back.
 
-use lanes::load::History;
-use lanes::load::Weights;
+use lanes::History;
+use lanes::Weights;
 use onerun::Shape;
 use types::EqualizeState;
 ghost use mathlib.Core.Path.{_≡_};
@@ -43,10 +43,10 @@ fn begin(
 {
     let first = 64 - input.len() / 2;
     let from = first / 16 * 16;
-    lanes::prepare::enter(xr, xi, input);
-    lanes::prepare::squares(q, xr, xi, from, 64 + n);
-    lanes::prepare::powers(power, q, from, n);
-    lanes::prepare::sizes(steps, power, s, from);
+    lanes_prepare::enter(xr, xi, input);
+    lanes_prepare::squares(q, xr, xi, from, 64 + n);
+    lanes_prepare::powers(power, q, from, n);
+    lanes_prepare::sizes(steps, power, s, from);
 }
 
 // The windows of the last sample to where the next run looks for them.
@@ -57,11 +57,11 @@ fn end(xr: &mut [f32; 288], xi: &mut [f32; 288], q: &mut [f32; 288], len: usize,
         (now (xr .exit)) (now (xi .exit)) (now (q .exit)) ⌝ }
 {
     let first = 64 - len;
-    lanes::load::moved(xr, first, 64, n);
-    lanes::load::moved(xi, first, 64, n);
-    lanes::load::moved(xr, first + 152, 216, m);
-    lanes::load::moved(xi, first + 152, 216, m);
-    lanes::load::moved(q, first + 152, 216, m);
+    lanes_load::moved(xr, first, 64, n);
+    lanes_load::moved(xi, first, 64, n);
+    lanes_load::moved(xr, first + 152, 216, m);
+    lanes_load::moved(xi, first + 152, 216, m);
+    lanes_load::moved(q, first + 152, 216, m);
 }
 
 // One run: the samples i .. e, at most 64.
@@ -122,17 +122,6 @@ fn block(
     r
 }
 
-// The smaller, of two numbers that are not 0.
-fn least(a: usize, b: usize) -> usize
-    requires { ⌜ (0 < a) × (0 < b) ⌝ }
-    ensures { λ r. ⌜ (r ≤ a) × ((r ≤ b) × (0 < r)) ⌝ }
-{
-    if a < b {
-        return a;
-    }
-    b
-}
-
 // All runs of a call.
 fn runs(
     state: EqualizeState,
@@ -166,7 +155,7 @@ fn runs(
     let mut s = state;
     let mut i = 0usize;
     while i < marks.len() {
-        let len = least(marks.len() - i, 64);
+        let len = lanes_prepare::least(marks.len() - i, 64);
         let e = i + len;
         s = block(
             s,
@@ -256,11 +245,11 @@ fn load(
     ensures { λ _. ⌜ Loads n m (now (weights .entry)) (now (window .entry))
         (arrays (now (wr .exit)) (now (wi .exit)) (now (xr .exit)) (now (xi .exit)) (now (q .exit))) ⌝ }
 {
-    lanes::load::split(wr, wi, 0, weights, 0, n);
-    lanes::load::split(wr, wi, 72 + n % 8, weights, n, m);
-    lanes::load::split_long(xr, xi, 64, window, 0, n);
-    lanes::load::split_long(xr, xi, 216, window, n, m);
-    lanes::prepare::squares(q, xr, xi, 216, 216 + m);
+    lanes_load::split(wr, wi, 0, weights, 0, n);
+    lanes_load::split(wr, wi, 72 + n % 8, weights, n, m);
+    lanes_load::split(xr, xi, 64, window, 0, n);
+    lanes_load::split(xr, xi, 216, window, n, m);
+    lanes_prepare::squares(q, xr, xi, 216, 216 + m);
 }
 
 // And back.
@@ -279,10 +268,10 @@ fn store(
     ensures { λ _. ⌜ Stores n m (now (wr .entry)) (now (wi .entry)) (now (xr .entry)) (now (xi .entry))
         (now (weights .entry)) (now (window .entry)) (now (weights .exit)) (now (window .exit)) ⌝ }
 {
-    lanes::load::joined(weights, wr, wi, 0, 0, n);
-    lanes::load::joined(weights, wr, wi, 72 + n % 8, n, m);
-    lanes::load::joined_long(window, xr, xi, 64, 0, n);
-    lanes::load::joined_long(window, xr, xi, 216, n, m);
+    lanes_load::joined(weights, wr, wi, 0, 0, n);
+    lanes_load::joined(weights, wr, wi, 72 + n % 8, n, m);
+    lanes_load::joined(window, xr, xi, 64, 0, n);
+    lanes_load::joined(window, xr, xi, 216, n, m);
 }
 
 // A block by n forward and m feedback taps: arrays, all runs, and back.
@@ -303,7 +292,7 @@ pub(crate) fn equalize(
         (equalizer r (now (weights .exit)) (now (window .exit))) (now (output .exit)) (now (marks .exit)) ⌝ }
 {
     let g = shape_of(n, m);
-    let limit = lanes::load::limits(n, n % 8, m);
+    let limit = lanes_load::limits(n, n % 8, m);
     let mut wr = Weights::ZERO;
     let mut wi = Weights::ZERO;
     let mut xr = History::ZERO;

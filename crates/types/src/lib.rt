@@ -119,6 +119,9 @@ impl C32 {
 }
 
 impl EqParams {
+    // The cma_symbols of a mode that never switches.
+    pub const NEVER_SWITCH: u32 = 4294967295;
+
     // QPSK, no feedback, mu_cma 0.05, mu_dd 0.02, 1000 symbols in Cma, bandwidth 0.02.
     pub fn default() -> EqParams
         ensures { λ r. ⌜ r ≡ record { constellation = EqConstellation.Qpsk; «feedback_taps» = 0; «mu_cma» = f32Of 0x3d4c_cccd; «mu_dd» = f32Of 0x3ca3_d70a; «cma_symbols» = 1000; «phase_bw» = f64Of 0x3f94_7ae1_47ae_147b } ⌝ }
@@ -149,6 +152,8 @@ impl EqualizeState {
     pub const PHASE_MAX_FREQ: f32 = 0.125;
     // The mean error at the start.
     pub const MSE_START: f32 = 1.0;
+    // What the step size adds to the window power.
+    pub const NLMS_EPS: f32 = 0.000001;
 
     // The record at the start: count 0, mse 1, phase and frequency 0.
     pub fn fresh(params: EqParams, kp: f32, ki: f32) -> EqualizeState

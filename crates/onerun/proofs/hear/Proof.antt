@@ -13,17 +13,17 @@ sub-bt c = search needs
 follow-requires : tie.Need-follow-requires
 follow-requires c κs = search needs
 
-adapt-requires : tie.Need-adapt-requires
-adapt-requires c κs = search needs
+update-split-requires : tie.Need-update-split-requires
+update-split-requires c κs = search needs
 
 heard-requires : tie.Need-heard-requires
 heard-requires c κs = search needs
 
 returns : tie.Need-returns
 returns c =
-    let at-adapt = c .before in
+    let at-update = c .before in
     let at-follow = c .before .before .before .before in
-    (heard-exit _ _ _ (at-follow .follow .ensures) (c .heard .ensures), (adapts-exit _ _ _ _ _ _ _ _ _ _ _ _ _ _ (at-follow .follow .ensures) (at-adapt .adapt .ensures .0), lanes-exit _ _ (at-adapt .adapt .ensures .1)))
+    (heard-exit _ _ _ (at-follow .follow .ensures) (c .heard .ensures), (adapts-exit _ _ _ _ _ _ _ _ _ _ _ _ _ _ (at-follow .follow .ensures) (at-update .update-split .ensures .0), lanes-exit _ _ (at-update .update-split .ensures .1)))
 
 pub hear-spec : {M : Type 1} → statement M
-hear-spec = tie.close (tie.spec add-bt sub-bt follow-requires adapt-requires heard-requires returns)
+hear-spec = tie.close (tie.spec add-bt sub-bt follow-requires update-split-requires heard-requires returns)

@@ -1,6 +1,6 @@
-use Rattle.runs.proofs.Calling.{stores}
-use native.Mathlib.Omega.{arith}
+-- `store` gives the caller's slices what the arrays hold: by what `joined` leaves, and the law of a call's end.
 use borrow.Author.Needs.{needs}
+use Rattle.runs.proofs.Calling.{stores}
 use Rattle.runs.proofs.block.store.Statement.{statement}
 use Rattle.runs.proofs.block.store.Tie as tie
 
@@ -13,11 +13,11 @@ add-joined c = search needs
 joined-requires-2 : tie.Need-joined-requires-2
 joined-requires-2 c κs = search needs
 
-joined-long-requires : tie.Need-joined-long-requires
-joined-long-requires c κs = search needs
+joined-requires-3 : tie.Need-joined-requires-3
+joined-requires-3 c κs = search needs
 
-joined-long-requires-2 : tie.Need-joined-long-requires-2
-joined-long-requires-2 c κs = search needs
+joined-requires-4 : tie.Need-joined-requires-4
+joined-requires-4 c κs = search needs
 
 same-length : tie.Need-same-length
 same-length c = search needs
@@ -26,7 +26,9 @@ same-length-2 : tie.Need-same-length-2
 same-length-2 c = search needs
 
 returns : tie.Need-returns
-returns c = stores _ _ _ _ _ _ _ _ _ _ _ _ (c .before .before .before .before .before .before .before .before .before .before .before .before .before .before .joined .ensures) (c .before .before .before .before .before .before .before .before .before .before .joined2 .ensures) (c .before .before .before .before .before .before .joined-long .ensures) (c .before .before .joined-long2 .ensures)
+returns c =
+    stores _ _ _ _ _ _ _ _ _ _ _ _ (c .before .before .before .before .before .before .before .before .before .before .before .before .before .before .before .before .before .before .before .before .joined .ensures) (c .before .before .before .before .before .before .before .before .before .before .before .before .before .before .joined2 .ensures)
+    (c .before .before .before .before .before .before .before .before .joined3 .ensures) (c .before .before .joined4 .ensures)
 
 pub store-spec : {M : Type 1} → statement M
 store-spec =
@@ -35,8 +37,8 @@ store-spec =
     joined-requires
     add-joined
     joined-requires-2
-    joined-long-requires
-    joined-long-requires-2
+    joined-requires-3
+    joined-requires-4
     same-length
     same-length-2
     returns)

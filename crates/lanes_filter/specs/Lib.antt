@@ -1,0 +1,2 @@
+-- Split: the filter sum over split arrays, by index.
+pub mod Split

@@ -1,0 +1,2 @@
+-- Load: the caller's slices and the split arrays, by index.
+pub mod Load

@@ -1,0 +1,6 @@
+-- ChainLoop: a loop's step. Windows, Representation, Measurement, Sample: one sample, up to `sample-holds`.
+pub mod ChainLoop
+pub mod Windows
+pub mod Representation
+pub mod Measurement
+pub mod Sample
