@@ -119,7 +119,7 @@ pub fn integrate(t: f32, limit: f32) -> f32
     ensures { λ r. ⌜ r ≡ clip (flush t) limit ⌝ }
 {
     let a = size(t);
-    if (a <= limit) & (a >= 1e-30) {
+    if (a <= limit) & (a >= numeric::TINY) {
         t
     } else {
         numeric::clip(numeric::flush_denormal(t), limit)

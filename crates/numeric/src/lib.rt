@@ -22,8 +22,8 @@ pub fn is_finite(x: f32) -> bool
 pub fn flush_denormal(x: f32) -> f32
     ensures { λ r. ⌜ r ≡ flush x ⌝ }
 {
-    if x < 1e-30 {
-        if x > -1e-30 {
+    if x < TINY {
+        if x > -TINY {
             return 0.0;
         }
     }

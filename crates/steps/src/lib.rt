@@ -197,8 +197,8 @@ pub fn size_of(s: EqualizeState, power: f32) -> f32
     let m = s.mode;
     let p = s.params;
     match m {
-        EqMode::Cma => p.mu_cma / (power + 0.000001),
-        EqMode::Decision => p.mu_dd / (power + 0.000001),
+        EqMode::Cma => p.mu_cma / (power + EqualizeState::NLMS_EPS),
+        EqMode::Decision => p.mu_dd / (power + EqualizeState::NLMS_EPS),
     }
 }
 
