@@ -3,7 +3,7 @@
 -- Lists left as they were are equal as data: a NaN in them is a NaN again, and its payload is not spoken of (Floats).
 use Prim.Native.Nat.{ℕ, _-_, _*_, _/_, _%_}
 use mathlib.Core.Bool.{Bool, cond, _&&_}
-use mathlib.Core.List.{List, [], _∷_}
+use mathlib.Core.List.{List, [], _∷_, _++_}
 use lib.ListN.{length}
 use lib.Dec.{eqb}
 use lib.Ieee.{Float, isNan}
@@ -37,18 +37,39 @@ startOver s n = record { state = s; weights = startWeights n ((n - s .params .«
 
 -- ---- new
 
--- `new` tests 1 to 7 in that order; lw and lh are the counts of f32 in weights and window.
--- Forward taps are the weights less the feedback taps, and 0 where there are fewer weights, which is refused with 3.
-unfoldable pub newTests : EqParams → ℕ → ℕ → List Test
-newTests p lw lh =
+-- The tests are lists that a call joins; lw and lh are the counts of f32 in weights and window.
+
+-- test 1 of weights and window: whole complex numbers
+abbrev pub pairTests : ℕ → ℕ → List Test
+pairTests lw lh =
     test (even lw && even lh) Odd
-    ∷ test (feedbackFits (p .«feedback_taps»)) Feedback
+    ∷ []
+
+-- Tests 2 to 4: the taps. Forward taps are the weights less the feedback taps, and 0 where there are fewer weights, which is refused with 3.
+abbrev pub tapTests : EqParams → ℕ → ℕ → List Test
+tapTests p lw lh =
+    test (feedbackFits (p .«feedback_taps»)) Feedback
     ∷ test (tapsFit (lw / 2 - p .«feedback_taps»)) Taps
     ∷ test (eqb (lh / 2) (lw / 2)) (Window (lw / 2) (lh / 2))
-    ∷ test (muFits (p .«mu_cma»)) MuCma
+    ∷ []
+
+-- tests 5 to 7: the settings
+abbrev pub settingTests : EqParams → List Test
+settingTests p =
+    test (muFits (p .«mu_cma»)) MuCma
     ∷ test (muFits (p .«mu_dd»)) MuDd
     ∷ test (bwFits (p .«phase_bw»)) Bandwidth
     ∷ []
+
+-- test 8: the record
+abbrev pub recordTests : Bool → List Test
+recordTests rulesMet =
+    test rulesMet Record
+    ∷ []
+
+-- `new` tests 1 to 7 in that order.
+unfoldable pub newTests : EqParams → ℕ → ℕ → List Test
+newTests p lw lh = pairTests lw lh ++ tapTests p lw lh ++ settingTests p
 
 unfoldable pub newVerdict : EqParams → ℕ → ℕ → Outcome
 newVerdict p lw lh = firstOf (newTests p lw lh)
@@ -78,9 +99,11 @@ newDef p w h = newBy (newVerdict p (length w) (length h)) p w h
 -- ---- reset
 
 -- `reset` tests 1, then 8 for R1 and R2 only.
+abbrev pub resetTests : Equalizer → List Test
+resetTests q = pairTests (length (q .weights)) (length (q .window)) ++ recordTests (ruleR1 q && ruleR2 (q .state))
+
 unfoldable pub resetVerdict : Equalizer → Outcome
-resetVerdict q =
-    firstOf (test (even (length (q .weights)) && even (length (q .window))) Odd ∷ test (ruleR1 q && ruleR2 (q .state)) Record ∷ [])
+resetVerdict q = firstOf (resetTests q)
 
 pub record ResetAnswer : Type 0 where
   pub outcome : Outcome
@@ -146,14 +169,22 @@ pub record Lengths : Type 0 where
   pub output : ℕ
   pub marks : ℕ
 
--- Equalizing tests 1, 8, 9, 10.
-unfoldable pub equalizeTests : Bool → Lengths → List Test
-equalizeTests rulesMet l =
+-- test 1 of all four slices
+abbrev pub sliceTests : Lengths → List Test
+sliceTests l =
     test (even (l .weights) && even (l .window) && even (l .input) && even (l .output)) Odd
-    ∷ test rulesMet Record
-    ∷ test (eqb (l .output / 2) (l .input / 2)) (Output (l .input / 2) (l .output / 2))
+    ∷ []
+
+-- tests 9 and 10: output and marks hold as many samples as the input
+abbrev pub lengthTests : Lengths → List Test
+lengthTests l =
+    test (eqb (l .output / 2) (l .input / 2)) (Output (l .input / 2) (l .output / 2))
     ∷ test (eqb (l .marks) (l .input / 2)) (Marks (l .input / 2) (l .marks))
     ∷ []
+
+-- Equalizing tests 1, 8, 9, 10.
+unfoldable pub equalizeTests : Bool → Lengths → List Test
+equalizeTests rulesMet l = sliceTests l ++ recordTests rulesMet ++ lengthTests l
 
 unfoldable pub verdictDef : Bool → Lengths → Outcome
 verdictDef rulesMet l = firstOf (equalizeTests rulesMet l)

@@ -2,7 +2,7 @@
 use Prim.Native.Nat.{ℕ, _/_, _%_}
 use mathlib.Core.Path.{_≡_, refl, sym, _∙_, ap}
 use mathlib.Core.Bool.{Bool, true, false, cond, _&&_}
-use mathlib.Core.List.{List, [], _∷_}
+use mathlib.Core.List.{List, [], _∷_, _++_}
 use native.Mathlib.Omega.{arith}
 use lib.ListN.{length}
 use lib.Dec.{eqb}
@@ -53,6 +53,21 @@ module _ (b : Bool) (e : Error) (ts : List Test) where
       go : (c : Bool) → b ≡ c → cond c (firstOf ts) (Refused e) ≡ Served → (b ≡ true) × (firstOf ts ≡ Served)
       go true p k = (p, k)
       go false p k = absurd (refused-not e (sym k))
+
+-- the first outcome, or the second where the first is Served
+abbrev pub orNext : Outcome → Outcome → Outcome
+orNext Served o = o
+orNext (Refused e) o = Refused e
+
+-- of joined lists the first that fails is that of the one, and that of the other where the one passes
+pub joined : (a b : List Test) → firstOf (a ++ b) ≡ orNext (firstOf a) (firstOf b)
+unfolding firstOf
+joined [] b = refl
+joined (t ∷ a) b = go (t .passed) (joined a b)
+  where
+    go : (c : Bool) → firstOf (a ++ b) ≡ orNext (firstOf a) (firstOf b) → cond c (firstOf (a ++ b)) (Refused (t .refusal)) ≡ orNext (cond c (firstOf a) (Refused (t .refusal))) (firstOf b)
+    go true h = h
+    go false h = refl
 
 -- ---- what a served call says
 

@@ -1,4 +1,5 @@
 // Numeric helpers: the Rust's num.rs, its clip, and the narrowing of an f64 on the bits.
+use types::C32;
 ghost use mathlib.Core.Path.{_≡_};
 ghost use mathlib.Core.Bool.{cond};
 ghost use Prim.Native.Nat.{_+_, _^_, _≤_, _<_};
@@ -6,7 +7,7 @@ ghost use lib.Dec.{leb};
 ghost use lib.Ieee.{binary32, ofBits};
 ghost use lib.Ieee.Nearest.{closest};
 ghost use lib.Ieee.Scale.{finite};
-ghost use Rattle.definition.specs.Floats.{flush, clip as clipDef, narrow as narrowDef};
+ghost use Rattle.definition.specs.Floats.{flush, clip as clipDef, narrow as narrowDef, finiteC};
 
 // A value below this magnitude is flushed to +0.
 pub const TINY: f32 = 1e-30;
@@ -16,6 +17,13 @@ pub fn is_finite(x: f32) -> bool
     ensures { λ r. ⌜ r ≡ finite x ⌝ }
 {
     x - x == 0.0
+}
+
+// Whether both parts are finite.
+pub fn finite_c(v: C32) -> bool
+    ensures { λ r. ⌜ r ≡ finiteC v ⌝ }
+{
+    is_finite(v.re) & is_finite(v.im)
 }
 
 // +0 where |x| is below 1e-30, else x. A NaN stays a NaN.
