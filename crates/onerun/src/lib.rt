@@ -9,7 +9,6 @@ ghost use mathlib.Core.Bool.{true};
 ghost use Prim.Native.Nat.{_+_, _-_, _*_, _<_, _≤_};
 ghost use lib.ListN.{length};
 ghost use Rattle.tables.specs.Table.{cosBits};
-ghost use Rattle.definition.specs.Floats.{finiteC};
 ghost use Rattle.definition.specs.Rules.{ruleR4};
 ghost use Rattle.lanes.specs.Arrays.{arrays};
 ghost use Rattle.lanes.specs.Adapts.{Adapts};
@@ -27,12 +26,6 @@ pub struct Shape {
     pub front: usize,
     pub m: usize,
     pub centre: usize,
-}
-
-fn finite_c(v: C32) -> bool
-    ensures { λ r. ⌜ r ≡ finiteC v ⌝ }
-{
-    numeric::is_finite(v.re) & numeric::is_finite(v.im)
 }
 
 // The step size of a sample: made ahead without feedback.
@@ -125,10 +118,10 @@ fn take(
         forward,
     );
     let y = f.y;
-    if !finite_c(x) {
+    if !numeric::finite_c(x) {
         return steps::unheard(s, Mark::Blank);
     }
-    if !finite_c(y) {
+    if !numeric::finite_c(y) {
         return steps::unheard(s, Mark::Spilled);
     }
     let size = step_size(s, g.m, ahead, f.power);

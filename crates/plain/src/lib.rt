@@ -6,21 +6,29 @@ use types::EqualizeState;
 use types::Mark;
 
 mod slices;
-mod step;
 
 ghost use mathlib.Core.Path.{_≡_};
 ghost use mathlib.Core.Bool.{true};
 ghost use mathlib.Core.List.{_++_};
 ghost use Prim.Native.Nat.{_+_, _*_, _≤_};
 ghost use lib.ListN.{length, take, drop};
-ghost use Rattle.definition.specs.Floats.{complex, zeroC};
 ghost use Rattle.definition.specs.Slices.{shifted, samplesOf};
 ghost use Rattle.definition.specs.Packed.{equalizer, Shaped, Ran};
-ghost use Rattle.definition.specs.Sample.{step2, step3, hear as hearDef, heardAs, sampleDef};
+ghost use Rattle.definition.specs.Sample.{sanitized, step2, step3, hear as hearDef, heardAs, sampleDef};
 ghost use Rattle.definition.specs.Rules.{ruleR4, acceptedDef};
 ghost use Rattle.definition.specs.Run.{runDef};
 ghost use Rattle.steps.specs.Step.{stage, did};
 ghost use Rattle.plain.specs.Pieces.{Sized};
+
+// What the window stores: v, or zero where a part is not finite.
+fn sanitize(v: C32) -> C32
+    ensures { λ r. ⌜ r ≡ sanitized v ⌝ }
+{
+    if numeric::finite_c(v) {
+        return v;
+    }
+    C32::ZERO
+}
 
 // Steps 4 to 7: a sample whose sum y is finite. Cosine and sine come before the powers: they need not wait behind those long sums.
 fn hear(s: EqualizeState, w: &mut [f32], h: &[f32], y: C32, n: usize, f: usize) -> Stage
@@ -42,11 +50,11 @@ fn took(s: EqualizeState, w: &mut [f32], h: &[f32], x: C32, n: usize, f: usize) 
     requires { ⌜ Sized s (now w) (now h) n f ⌝ }
     ensures { λ r. ⌜ stage s r (now (w .exit)) ≡ step3 s (now (w .entry)) n f x (now (h .entry)) (step2 n (now (w .entry)) (now (h .entry))) ⌝ }
 {
-    if !step::finite_c(x) {
+    if !numeric::finite_c(x) {
         return steps::unheard(s, Mark::Blank);
     }
     let y = dot::dot_complex_c32(h, w);
-    if !step::finite_c(y) {
+    if !numeric::finite_c(y) {
         return steps::unheard(s, Mark::Spilled);
     }
     hear(s, w, h, y, n, f)
@@ -74,7 +82,7 @@ fn sample_sized(
     requires { ⌜ ruleR4 s ≡ true ⌝ }
     ensures { λ r. ⌜ did r (now (w .exit)) (now (h .exit)) ≡ sampleDef (equalizer s (now (w .entry)) (now (h .entry))) x ⌝ }
 {
-    slices::shift(h, f, step::sanitize(x));
+    slices::shift(h, f, sanitize(x));
     let r = took(s, w, h, x, n, f);
     let p = s.params;
     let m = p.feedback_taps;

@@ -1,7 +1,7 @@
 use borrow.Author.Needs.{needs}
 use Rattle.plain.proofs.Exits.{sanitized-yes, sanitized-no}
-use Rattle.plain.proofs.step.sanitize.Statement.{statement}
-use Rattle.plain.proofs.step.sanitize.Tie as tie
+use Rattle.plain.proofs.sanitize.Statement.{statement}
+use Rattle.plain.proofs.sanitize.Tie as tie
 
 finite-c-requires : tie.Need-finite-c-requires
 finite-c-requires c κs = search needs
@@ -9,11 +9,8 @@ finite-c-requires c κs = search needs
 returns : tie.Need-returns
 returns c = search sanitized-yes
 
-zero-requires : tie.Need-zero-requires
-zero-requires c κs = search needs
-
 returns-2 : tie.Need-returns-2
 returns-2 c = search sanitized-no
 
 pub sanitize-spec : {M : Type 1} → statement M
-sanitize-spec = tie.close (tie.spec finite-c-requires returns zero-requires returns-2)
+sanitize-spec = tie.close (tie.spec finite-c-requires returns returns-2)
