@@ -82,7 +82,7 @@ unfoldable pub acceptedDef : Equalizer → Bool
 acceptedDef q = whole (q .weights) && whole (q .window) && rules q
 
 -- what R1 says, as numbers
-pub record Shape (q : Equalizer) : Type 0 where
+pub record TapCounts (q : Equalizer) : Type 0 where
   pub some : 3 ≤ forward q
   pub most : forward q ≤ 63
   pub back : feedback q ≤ 63

@@ -19,7 +19,7 @@ use Rattle.definition.specs.Floats.{narrow}
 use Rattle.definition.specs.Slices.{complexLength, whole, every}
 use Rattle.definition.specs.Gains.{phaseDamping, gainKp, gainKi}
 use Rattle.definition.specs.Sample.{Equalizer, allTaps, feedback, forward}
-use Rattle.definition.specs.Rules.{sameBits, tapsFit, muFits, bwFits, weightFits, freqFits, ruleR1, ruleR2, ruleR3, countFits, ruleR4, rules, acceptedDef, Shape, feedbackFits}
+use Rattle.definition.specs.Rules.{sameBits, tapsFit, muFits, bwFits, weightFits, freqFits, ruleR1, ruleR2, ruleR3, countFits, ruleR4, rules, acceptedDef, TapCounts, feedbackFits}
 use Rattle.definition_laws.proofs.Gains.{ki-finite}
 
 pub record Accepted (q : Equalizer) : Type 0 where
@@ -75,7 +75,7 @@ accepted-whole q a =
     (and-i (x && y && (c && d && e)) f (and-i (x && y) (c && d && e) (and-i x y (a .r1) (a .r2)) (and-i (c && d) e (and-i c d (a .weights) (a .window)) (a .freq))) (a .r4))
 
 -- ---- the lengths of an accepted equalizer
-pub shape : (q : Equalizer) → Accepted q → Shape q
+pub shape : (q : Equalizer) → Accepted q → TapCounts q
 unfolding ruleR1 tapsFit feedbackFits
 shape q a =
     let F = forward q in

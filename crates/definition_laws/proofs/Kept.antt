@@ -27,7 +27,7 @@ use Rattle.definition.specs.Turns.{derotated, rotated}
 use Rattle.types.specs.declared.Mark.{Mark}
 use Rattle.types.specs.declared.Mark.the-variants.{Blank, Spilled}
 use Rattle.definition.specs.Sample.{Equalizer, Did, Out, Stage, Letters, allTaps, feedback, forward, neverSwitch, sanitized, step1, step2, fedOf, resetUnless, adapted, updateOf, live, phaseError, freqAfter, tracked, hear, heardAs, passedBy, step3, fedIn, withMode, advanceIn, advance, step8, sampleDef}
-use Rattle.definition.specs.Rules.{plusZero, weightFits, freqFits, ruleR1, ruleR2, countFits, ruleR4, acceptedDef, Shape}
+use Rattle.definition.specs.Rules.{plusZero, weightFits, freqFits, ruleR1, ruleR2, countFits, ruleR4, acceptedDef, TapCounts}
 use Rattle.definition.specs.Run.{Run, runDef}
 use Rattle.definition_laws.proofs.Every.{every-append, every-left, every-take, every-drop, every-set, every-replicate, every-shifted, every-tabulate, length-shifted, length-updated, length-start}
 use Rattle.definition_laws.proofs.Parts.{zero-fits, flush-fits, freq-fits, freq-finite, finite-zero, mul-number, add-number, is-true}
@@ -132,7 +132,7 @@ sanitized-finite x = go (finiteC x) refl
     go true e = finite-parts x (subst T (sym e) tt)
     go false e = (finite-zero, finite-zero)
 
-pub step1-length : (q : Equalizer) → Shape q → (x : C32) → length (step1 (forward q) x (q .window)) ≡ length (q .window)
+pub step1-length : (q : Equalizer) → TapCounts q → (x : C32) → length (step1 (forward q) x (q .window)) ≡ length (q .window)
 unfolding step1
 step1-length q z x = length-shifted (forward q) (sanitized x) (q .window) (omega (arith, z .sum, z .window))
 
@@ -140,7 +140,7 @@ pub step1-finite : (f : ℕ) (x : C32) (h : List Float) → T (every finite h) �
 unfolding step1
 step1-finite f x h a = every-shifted finite f (sanitized x) h (sanitized-finite x .0) (sanitized-finite x .1) a
 
-fedIn-length : (q : Equalizer) → Shape q → (v : C32) (h : List Float) → length h ≡ length (q .window) → length (fedIn (forward q) (feedback q) v h) ≡ length (q .window)
+fedIn-length : (q : Equalizer) → TapCounts q → (v : C32) (h : List Float) → length h ≡ length (q .window) → length (fedIn (forward q) (feedback q) v h) ≡ length (q .window)
 unfolding fedIn
 fedIn-length q z v h l =
     let d : length (drop (2 * forward q) h) ≡ 2 * feedback q = length-drop (2 * forward q) h ∙ omega (arith, z .sum, z .window, l) in
@@ -236,7 +236,7 @@ module _ (q : Equalizer) (a : Accepted q) where
 -- ---- one sample
 
 module _ (q : Equalizer) (h : List Float) (t : Stage) where
-  alike-step8 : Shape q → length h ≡ length (q .window) → Staged q t → Alike (step8 (forward q) (feedback q) h t .equalizer) q
+  alike-step8 : TapCounts q → length h ≡ length (q .window) → Staged q t → Alike (step8 (forward q) (feedback q) h t .equalizer) q
   unfolding step8
   alike-step8 z l g =
       let k = advance-keeps (t .state) in

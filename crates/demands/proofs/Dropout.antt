@@ -27,7 +27,7 @@ use Rattle.demands.specs.Cut.{OneRun, Same}
 use Rattle.demands.specs.Blanks.{allBlank, Blanks, blankOut, countAfter, modeAt, windowAfter, AfterBlanks, BlankRun}
 use Rattle.demands.specs.Demand3.{Dropout, Dropped, Recovered, Demand3}
 use Rattle.demands.proofs.Cut.{calls-are-one-run, follow-front}
-use Rattle.demands.proofs.Blank.{blanks-claim, clear-claim}
+use Rattle.demands.proofs.Blanks.{blanks-claim, clear-claim}
 
 -- ---- the first k of n blanks
 

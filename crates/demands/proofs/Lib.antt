@@ -1,7 +1,7 @@
 -- The proofs of the statements in specs/, and that they are not empty.
 pub mod Served
 pub mod Cut
-pub mod Blank
+pub mod Blanks
 pub mod Dropout
 pub mod Spill
 pub mod Made

@@ -19,7 +19,7 @@ use Rattle.types.specs.Bits.{zero32}
 use Rattle.definition.specs.Floats.{_+f_, _-f_, _*f_, complex, zeroC, finiteC}
 use Rattle.definition.specs.Slices.{reAt, imAt, every, shifted, prodRe, prodIm, lane, laneCount, tree, sum8, filterSum}
 use Rattle.definition.specs.Sample.{Equalizer, allTaps, feedback, forward, sanitized, step1, step2}
-use Rattle.definition.specs.Rules.{acceptedDef, Shape}
+use Rattle.definition.specs.Rules.{acceptedDef, TapCounts}
 use Rattle.definition_laws.proofs.Parts.{is-true}
 use Rattle.definition_laws.proofs.Every.{every-at, every-shifted}
 use Rattle.definition_laws.proofs.Accept.{Accepted, accepted-parts, shape}
@@ -140,7 +140,7 @@ module _ (h w : List Float) (n j k : ℕ) (few : n ≤ 126) (b : j + k ≤ 418) 
 
 -- ---- at most 126 taps
 
-few-taps : (q : Equalizer) → Shape q → allTaps q ≤ 126
+few-taps : (q : Equalizer) → TapCounts q → allTaps q ≤ 126
 few-taps q z = omega (arith, z .sum, z .most, z .back)
 
 sanitized-up-to : (b : ℕ) (x : C32) → T (upTo b (x .re)) → T (upTo b (x .im)) → T (upTo b (sanitized x .re)) × T (upTo b (sanitized x .im))

@@ -139,7 +139,7 @@ fn serve(
     if marks.len() < SHORT {
         plain::run(state, weights, window, input, output, marks)
     } else {
-        runs::equalize_runs(state, weights, window, input, output, marks)
+        run_block::equalize_linear(state, weights, window, input, output, marks)
     }
 }
 

@@ -20,7 +20,7 @@ pub record Lies (re im : List Float) (from : ℕ) (x : List Float) (base count :
   pub im-is : (j : ℕ) → j < count → getD im (from + j) nan ≡ imAt x (base + j)
 
 -- +0 in the lanes from .. to of the part that starts at o
-pub record Blank (re im : List Float) (o from to : ℕ) : Type 0 where
+pub record Unused (re im : List Float) (o from to : ℕ) : Type 0 where
   pub re-zero : (i : ℕ) → from ≤ i → i < to → getD re (o + i) nan ≡ zero32
   pub im-zero : (i : ℕ) → from ≤ i → i < to → getD im (o + i) nan ≡ zero32
 
@@ -35,8 +35,8 @@ pub record Half (re im : List Float) (o from : ℕ) (w : List Float) (base count
   pub long′ : length im ≡ 144
   pub room : from + count ≤ 72
   pub lies : Lies re im (o + from) w base count
-  pub early : Blank re im o 0 from
-  pub late : Blank re im o (from + count) 72
+  pub early : Unused re im o 0 from
+  pub late : Unused re im o (from + count) 72
 
 -- the split weights
 pub record Weights (n m : ℕ) (wr wi w : List Float) : Type 0 where
@@ -82,7 +82,7 @@ pub record Limits (limit : List Float) (o from count : ℕ) : Type 0 where
   pub late : (i : ℕ) → from + count ≤ i → i < 72 → getD limit (o + i) nan ≡ inf false
 
 -- the lanes of the sums and of the steps
-pub record Shaped (n m lanes more quads mquads : ℕ) : Type 0 where
+pub record LaneCounts (n m lanes more quads mquads : ℕ) : Type 0 where
   pub some : 3 ≤ n
   pub most : n ≤ 63
   pub most′ : m ≤ 63

@@ -13,7 +13,7 @@ use Rattle.types.specs.Bits.{zero32}
 use Rattle.definition.specs.Floats.{_+f_, _-f_, _*f_, tiny, complex}
 use Rattle.definition.specs.Slices.{reAt, imAt, newRe, newIm, updated}
 use Rattle.lanes_adapt.specs.Steps.{uneven, laneRe, laneIm, stepRe, stepIm, anyOf, brokenAt, brokenIn, clearOf, clearIn, Within}
-use Rattle.lanes.specs.Holds.{Lies, Blank, Half, Limits}
+use Rattle.lanes.specs.Holds.{Lies, Unused, Half, Limits}
 use Rattle.lanes_adapt.proofs.Tests.{kept-tiny, kept-top-fine, even-fine, fine-even, any-false, none-any, tiny-low, tiny-not-high, top-not-low, top-high}
 use Rattle.lanes_adapt.proofs.Update.{updated-re, updated-im}
 

@@ -13,7 +13,7 @@ use Rattle.definition.specs.Floats.{_+f_, _-f_, _*f_}
 use Rattle.definition.specs.Slices.{prodRe, prodIm, sum8}
 use Rattle.definition_laws.proofs.Padding.{Zero, times-zero, zero-minus, zero-plus}
 use Rattle.lanes_filter.specs.Split.{splitRe, splitIm, sumTwo}
-use Rattle.lanes.specs.Holds.{Lies, Blank, Calm, Weights, Window, Shaped}
+use Rattle.lanes.specs.Holds.{Lies, Unused, Calm, Weights, Window, LaneCounts}
 use Rattle.lanes_filter.proofs.Halves.{Halves, halves-sum}
 
 module _ (x y c d : Float) (a : T (finite x)) (b : T (finite y)) (e : c ≡ zero32) (f : d ≡ zero32) where
@@ -52,7 +52,7 @@ module _ (xr xi wr wi h w : List Float) (a o from base count j : ℕ) (x : Lies 
       rw (e, f, x .re-is j l, x .im-is j l, y .re-is j l, y .im-is j l)
 
 module _ (n m lanes more quads mquads at : ℕ) (wr wi xr xi w h : List Float)
-    (s : Shaped n m lanes more quads mquads) (p : Weights n m wr wi w) (q : Window n m at xr xi h) (low : at ≤ 63) where
+    (s : LaneCounts n m lanes more quads mquads) (p : Weights n m wr wi w) (q : Window n m at xr xi h) (low : at ≤ 63) where
   forth-lies : Lies xr xi (at + 0) h 0 n
   forth-lies = let e : at + 0 ≡ at = omega arith in rw e (q .forth)
 

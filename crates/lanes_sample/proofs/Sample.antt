@@ -17,7 +17,7 @@ use Rattle.definition.specs.Sample.{Equalizer, Did, Stage, forward, feedback, s
 use Rattle.definition_laws.proofs.Accept.{Accepted}
 use Rattle.definition_laws.proofs.Kept.{Staged, staged}
 use Rattle.lanes.specs.Arrays.{Arrays, arrays}
-use Rattle.lanes.specs.Holds.{Weights, Holds, Put, Limits, Shaped}
+use Rattle.lanes.specs.Holds.{Weights, Holds, Put, Limits, LaneCounts}
 use Rattle.lanes.specs.Adapts.{Ready, Adapts}
 use Rattle.lanes_sample.specs.Absorbs.{Absorbs}
 use Rattle.lanes_sample.specs.Measures.{Measures}
@@ -55,7 +55,7 @@ absorbed u fed at quads mquads front centre limit wr wi xr xi sq wr′ wi′ xr�
 
 -- ---- what `measure` gives: y of step 2, and the power over all taps
 pub measure-is : (n m lanes more front quads mquads at : ℕ) (a : Arrays) (forward : Float) (y : C32) (all : Float) (q : Equalizer) (x : C32)
-    → Measures m lanes more front at a forward y all → Shaped n m lanes more quads mquads → front ≡ n % 8 → Holds n m (at + 1) a q → Put at x (a .xr) (a .xi)
+    → Measures m lanes more front at a forward y all → LaneCounts n m lanes more quads mquads → front ≡ n % 8 → Holds n m (at + 1) a q → Put at x (a .xr) (a .xi)
     → forward ≡ power (step1 n x (q .window)) n
     → (y ≡ step2 (n + m) (q .weights) (step1 n x (q .window))) × (all ≡ power (step1 n x (q .window)) (n + m))
 unfolding step2
@@ -102,7 +102,7 @@ staged-by {n} {m} {p} {a} {q} s ok x h y =
 
 -- ONE SAMPLE: arrays that hold an accepted q hold `sampleDef`'s equalizer after `absorb` is given the sample's own update and fed-back sample
 pub sample-holds : (n m at lanes more quads mquads front centre : ℕ) (limit : List Float) (a a′ : Arrays) (q : Equalizer) (x : C32) (u : Update) (fed : C32)
-    → Accepted q → Shaped n m lanes more quads mquads → front ≡ n % 8 → centre ≡ n / 2 → Limits limit 0 0 n → Limits limit 72 (n % 8) m
+    → Accepted q → LaneCounts n m lanes more quads mquads → front ≡ n % 8 → centre ≡ n / 2 → Limits limit 0 0 n → Limits limit 72 (n % 8) m
     → Holds n m (at + 1) a q → Put at x (a .xr) (a .xi)
     → step3 (q .state) (q .weights) (n + m) n x (step1 n x (q .window)) (step2 (n + m) (q .weights) (step1 n x (q .window))) .weights ≡ adapted u (n + m) n (q .weights) (step1 n x (q .window))
     → step3 (q .state) (q .weights) (n + m) n x (step1 n x (q .window)) (step2 (n + m) (q .weights) (step1 n x (q .window))) .fed ≡ fed

@@ -9,11 +9,11 @@ use Rattle.types.specs.declared.C32.{C32}
 use Rattle.types.specs.declared.Update.{Update}
 use Rattle.definition.specs.Sample.{Equalizer, Stage, step1, step8, adapted}
 use Rattle.lanes.specs.Arrays.{Arrays}
-use Rattle.lanes.specs.Holds.{Holds, Put, Limits, Shaped}
+use Rattle.lanes.specs.Holds.{Holds, Put, Limits, LaneCounts}
 
 -- before: the arrays hold q, the sample x has been put in, and t is what steps 3 to 7 came to
 pub record Came (u : Update) (fed : C32) (n m at lanes more quads mquads front centre : ℕ) (limit : List Float) (a : Arrays) (q : Equalizer) (x : C32) (t : Stage) : Type 0 where
-  pub shaped : Shaped n m lanes more quads mquads
+  pub shaped : LaneCounts n m lanes more quads mquads
   pub front-is : front ≡ n % 8
   pub middle : centre ≡ n / 2
   pub holds : Holds n m (at + 1) a q

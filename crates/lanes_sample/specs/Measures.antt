@@ -6,11 +6,11 @@ use lib.Ieee.{Float}
 use Rattle.types.specs.declared.C32.{C32}
 use Rattle.definition.specs.Slices.{filterSum, power}
 use Rattle.lanes.specs.Arrays.{Arrays}
-use Rattle.lanes.specs.Holds.{Weights, Window, Squares, Shaped}
+use Rattle.lanes.specs.Holds.{Weights, Window, Squares, LaneCounts}
 
 -- before: the arrays hold the weights w and the window h at `at`, and the power of the forward taps is known
 pub record Seen (n m lanes more front quads mquads at : ℕ) (a : Arrays) (forward : Float) (w h : List Float) : Type 0 where
-  pub shaped : Shaped n m lanes more quads mquads
+  pub shaped : LaneCounts n m lanes more quads mquads
   pub front-is : front ≡ n % 8
   pub weights : Weights n m (a .wr) (a .wi) w
   pub window : Window n m at (a .xr) (a .xi) h

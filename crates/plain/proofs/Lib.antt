@@ -1,5 +1,5 @@
--- Laws that belong to no one function: one for each exit, and one record for each loop.
-pub mod Exits
+-- Laws that belong to no one function: one for each exit, and one record for the loop.
+pub mod Stored
 pub mod Weights
-pub mod Hearing
-pub mod Folding
+pub mod Sample
+pub mod BlockLoop

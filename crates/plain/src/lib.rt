@@ -18,7 +18,7 @@ ghost use Rattle.definition.specs.Sample.{sanitized, step2, step3, hear as hear
 ghost use Rattle.definition.specs.Rules.{ruleR4, acceptedDef};
 ghost use Rattle.definition.specs.Run.{runDef};
 ghost use Rattle.steps.specs.Step.{stage, did};
-ghost use Rattle.plain.specs.Pieces.{Sized};
+ghost use Rattle.plain.specs.Taps.{TapsOf};
 
 // What the window stores: v, or zero where a part is not finite.
 fn sanitize(v: C32) -> C32
@@ -32,7 +32,7 @@ fn sanitize(v: C32) -> C32
 
 // Steps 4 to 7: a sample whose sum y is finite. Cosine and sine come before the powers: they need not wait behind those long sums.
 fn hear(s: EqualizeState, w: &mut [f32], h: &[f32], y: C32, n: usize, f: usize) -> Stage
-    requires { ⌜ Sized s (now w) (now h) n f ⌝ }
+    requires { ⌜ TapsOf s (now w) (now h) n f ⌝ }
     ensures { λ r. ⌜ stage s r (now (w .exit)) ≡ heardAs s (now (w .entry)) n f (now (h .entry)) (hearDef s n f (now (h .entry)) y) ⌝ }
 {
     let turn = mix::interp_f32_pair(s.phase);
@@ -47,7 +47,7 @@ fn hear(s: EqualizeState, w: &mut [f32], h: &[f32], y: C32, n: usize, f: usize) 
 
 // Steps 2 to 7, over the shifted window.
 fn took(s: EqualizeState, w: &mut [f32], h: &[f32], x: C32, n: usize, f: usize) -> Stage
-    requires { ⌜ Sized s (now w) (now h) n f ⌝ }
+    requires { ⌜ TapsOf s (now w) (now h) n f ⌝ }
     ensures { λ r. ⌜ stage s r (now (w .exit)) ≡ step3 s (now (w .entry)) n f x (now (h .entry)) (step2 n (now (w .entry)) (now (h .entry))) ⌝ }
 {
     if !numeric::finite_c(x) {
@@ -78,7 +78,7 @@ fn sample_sized(
     n: usize,
     f: usize,
 ) -> Sampled
-    requires { ⌜ Sized s (now w) (now h) n f ⌝ }
+    requires { ⌜ TapsOf s (now w) (now h) n f ⌝ }
     requires { ⌜ ruleR4 s ≡ true ⌝ }
     ensures { λ r. ⌜ did r (now (w .exit)) (now (h .exit)) ≡ sampleDef (equalizer s (now (w .entry)) (now (h .entry))) x ⌝ }
 {

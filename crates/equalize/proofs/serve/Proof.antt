@@ -5,8 +5,8 @@ use Rattle.equalize.proofs.serve.Tie as tie
 run-requires : tie.Need-run-requires
 run-requires c κs = search needs
 
-equalize-runs-requires : tie.Need-equalize-runs-requires
-equalize-runs-requires c κs = search needs
+equalize-linear-requires : tie.Need-equalize-linear-requires
+equalize-linear-requires c κs = search needs
 
 same-length : tie.Need-same-length
 same-length c = search needs
@@ -43,7 +43,7 @@ serve-spec =
     tie.close
     (tie.spec
     run-requires
-    equalize-runs-requires
+    equalize-linear-requires
     same-length
     same-length-2
     same-length-3

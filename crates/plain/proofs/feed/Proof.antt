@@ -1,5 +1,5 @@
 use borrow.Author.Needs.{needs}
-use Rattle.plain.proofs.Hearing.{feed-is}
+use Rattle.plain.proofs.Sample.{feed-is}
 use Rattle.plain.proofs.feed.Statement.{statement}
 use Rattle.plain.proofs.feed.Tie as tie
 

@@ -1,6 +1,6 @@
 use borrow.Author.Needs.{needs}
 use Rattle.definition.specs.Slices.{power}
-use Rattle.plain.proofs.Hearing.{heard-by}
+use Rattle.plain.proofs.Sample.{heard-by}
 use Rattle.plain.proofs.hear.Statement.{statement}
 use Rattle.plain.proofs.hear.Tie as tie
 

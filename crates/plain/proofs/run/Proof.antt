@@ -3,7 +3,7 @@ use Prim.Native.Nat.{_-_}
 use native.Mathlib.Omega.{arith}
 use lib.ListN.{length, length-set}
 use Rattle.definition.specs.Packed.{equalizer}
-use Rattle.plain.proofs.Folding.{Turns, turns-none, turns-more, turns-all}
+use Rattle.plain.proofs.BlockLoop.{Turns, turns-none, turns-more, turns-all}
 use Rattle.plain.proofs.run.Statement.{statement}
 use Rattle.plain.proofs.run.Tie as tie
 

@@ -1,6 +1,6 @@
 use borrow.Author.Needs.{needs}
 use native.Mathlib.Omega.{arith}
-use Rattle.plain.proofs.Hearing.{accepted-sized, accepted-r4}
+use Rattle.plain.proofs.Sample.{accepted-sized, accepted-r4}
 use Rattle.plain.proofs.sample.Statement.{statement}
 use Rattle.plain.proofs.sample.Tie as tie
 

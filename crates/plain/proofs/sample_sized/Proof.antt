@@ -1,5 +1,5 @@
 use borrow.Author.Needs.{needs}
-use Rattle.plain.proofs.Hearing.{sample-is, tracked-r4, feed-fits, sized-again}
+use Rattle.plain.proofs.Sample.{sample-is, tracked-r4, feed-fits, sized-again}
 use Rattle.plain.proofs.sample_sized.Statement.{statement}
 use Rattle.plain.proofs.sample_sized.Tie as tie
 

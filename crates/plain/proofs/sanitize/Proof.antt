@@ -1,5 +1,5 @@
 use borrow.Author.Needs.{needs}
-use Rattle.plain.proofs.Exits.{sanitized-yes, sanitized-no}
+use Rattle.plain.proofs.Stored.{sanitized-yes, sanitized-no}
 use Rattle.plain.proofs.sanitize.Statement.{statement}
 use Rattle.plain.proofs.sanitize.Tie as tie
 

@@ -1,6 +1,6 @@
 use borrow.Author.Needs.{needs}
 use borrow.Author.Tests.{not-true, not-false}
-use Rattle.plain.proofs.Hearing.{took-blank, took-spilled, took-heard}
+use Rattle.plain.proofs.Sample.{took-blank, took-spilled, took-heard}
 use Rattle.plain.proofs.took.Statement.{statement}
 use Rattle.plain.proofs.took.Tie as tie
 

@@ -1,3 +1,0 @@
-pub mod Taking
-pub mod Folding
-pub mod Going

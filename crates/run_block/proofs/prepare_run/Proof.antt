@@ -1,0 +1,43 @@
+use mathlib.Core.Path.{_∙_}
+use Rattle.run_block.proofs.WholeRun.{prepared}
+use native.Mathlib.Omega.{arith}
+use borrow.Author.Needs.{needs}
+use Rattle.run_block.proofs.prepare_run.Statement.{statement}
+use Rattle.run_block.proofs.prepare_run.Tie as tie
+
+sub-first : tie.Need-sub-first
+sub-first c = search needs
+
+mul-from : tie.Need-mul-from
+mul-from c = search needs
+
+enter-requires : tie.Need-enter-requires
+enter-requires c κs = search needs
+
+add-squares : tie.Need-add-squares
+add-squares c = search needs
+
+squares-requires : tie.Need-squares-requires
+squares-requires c κs = search needs
+
+powers-requires : tie.Need-powers-requires
+powers-requires c κs = search needs
+
+sizes-requires : tie.Need-sizes-requires
+sizes-requires c κs = search needs
+
+returns : tie.Need-returns
+returns c = (prepared _ _ _ _ _ _ _ _ _ _ _ _ _ (omega arith) (c .before .before .before .before .before .before .before .before .before .before .enter .ensures) (c .before .before .before .before .before .before .squares .ensures) (c .before .before .before .powers .ensures) (c .sizes .ensures .0), record { ps-long = c .before .before .before .powers .ensures .long ∙ c .before .before .before .before .before .before .before .before .before .before .before .before .before .before .pre .1 .0 .ps-long; ss-long = c .sizes .ensures .1 })
+
+pub prepare-run-spec : {M : Type 1} → statement M
+prepare-run-spec =
+    tie.close
+    (tie.spec
+    sub-first
+    mul-from
+    enter-requires
+    add-squares
+    squares-requires
+    powers-requires
+    sizes-requires
+    returns)

@@ -1,0 +1,2 @@
+-- What the functions of a block promise.
+pub mod Block

@@ -1,0 +1,29 @@
+use Rattle.run_samples.proofs.Sample.{heard-exit, adapts-exit, lanes-exit}
+use native.Mathlib.Omega.{arith}
+use borrow.Author.Needs.{needs}
+use Rattle.run_samples.proofs.hear.Statement.{statement}
+use Rattle.run_samples.proofs.hear.Tie as tie
+
+add-bt : tie.Need-add-bt
+add-bt c = search needs
+
+sub-bt : tie.Need-sub-bt
+sub-bt c = search needs
+
+follow-requires : tie.Need-follow-requires
+follow-requires c κs = search needs
+
+update-split-requires : tie.Need-update-split-requires
+update-split-requires c κs = search needs
+
+heard-requires : tie.Need-heard-requires
+heard-requires c κs = search needs
+
+returns : tie.Need-returns
+returns c =
+    let at-update = c .before in
+    let at-follow = c .before .before .before .before in
+    (heard-exit _ _ _ (at-follow .follow .ensures) (c .heard .ensures), (adapts-exit _ _ _ _ _ _ _ _ _ _ _ _ _ _ (at-follow .follow .ensures) (at-update .update-split .ensures .0), lanes-exit _ _ (at-update .update-split .ensures .1)))
+
+pub hear-spec : {M : Type 1} → statement M
+hear-spec = tie.close (tie.spec add-bt sub-bt follow-requires update-split-requires heard-requires returns)

@@ -1,0 +1,28 @@
+use Rattle.run_samples.proofs.Sample.{sampled, track-r4}
+use native.Mathlib.Omega.{arith}
+use borrow.Author.Needs.{needs}
+use Rattle.run_samples.proofs.sample.Statement.{statement}
+use Rattle.run_samples.proofs.sample.Tie as tie
+
+take-requires : tie.Need-take-requires
+take-requires c κs = (c .before .before .before .before .before .pre .0, (c .before .before .before .before .before .pre .1 .0, c .before .before .before .before .before .pre .1 .1 .0))
+
+add-feed : tie.Need-add-feed
+add-feed c = search needs
+
+feed-requires : tie.Need-feed-requires
+feed-requires c κs = search needs
+
+with-track-requires : tie.Need-with-track-requires
+with-track-requires c κs = search needs
+
+advance-requires : tie.Need-advance-requires
+advance-requires c κs = track-r4 _ _ _ (c .before .before .before .before .before .before .before .before .before .before .before .before .before .before .pre .1 .1 .1) (c .with-track .ensures)
+
+returns : tie.Need-returns
+returns c = sampled _ _ _ _ _ _ _ _ _ _ _ _ _ _ _ _ _ _ _ _ (c .before .before .before .before .before .before .before .before .before .before .before .before .before .before .before .pre .1 .0 .0) (c .before .before .before .before .before .before .before .before .before .before .before .before .before .before .before .pre .1 .1 .1) (c .before .before .before .before .before .before .before .before .before .take .ensures) (c .before .before .feed .ensures .0) (c .before .before .feed .ensures .1 .0) (c .before .before .feed .ensures .1 .1) (c .before .with-track .ensures) (c .advance .ensures)
+
+pub sample-spec : {M : Type 1} → statement M
+sample-spec =
+    tie.close
+    (tie.spec take-requires add-feed feed-requires with-track-requires advance-requires returns)

@@ -1,0 +1,3 @@
+-- Sample: one sample on the arrays. Run: the samples of a run.
+pub mod Sample
+pub mod Run
