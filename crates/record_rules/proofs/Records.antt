@@ -1,7 +1,7 @@
 -- The record rules: one law for each exit of the tests. Assumes nothing.
 use Prim.Native.Nat.{ℕ, _-_, _/_}
 use mathlib.Core.Path.{_≡_}
-use mathlib.Core.Bool.{Bool, not, _&&_, _||_}
+use mathlib.Core.Bool.{Bool, true, false, not, _&&_, _||_}
 use lib.ListN.{length}
 use lib.Dec.{eqb, ltb}
 use lib.Ieee.{Float, le}
@@ -14,7 +14,7 @@ use Rattle.definition.specs.Floats.{tiny, maxFreq, abs}
 use Rattle.definition.specs.Slices.{every}
 use Rattle.definition.specs.Gains.{phaseDamping, loopGains}
 use Rattle.definition.specs.Sample.{Equalizer, feedback, neverSwitch}
-use Rattle.definition.specs.Rules.{sameBits, feedbackFits, tapsFit, muFits, bwFits, plusZero, weightFits, freqFits, countFits, ruleR1, ruleR2, ruleR3, ruleR4}
+use Rattle.definition.specs.Rules.{sameBits, feedbackFits, tapsFit, muFits, bwFits, plusZero, weightFits, freqFits, countFits, ruleR1, ruleR2, ruleR3, ruleR4, rules}
 
 -- ---- R1
 
@@ -58,3 +58,14 @@ module _ (s : EqualizeState) where
   pub r4-decision : s .mode ≡ Decision → (not (eqb (s .params .«cma_symbols») 4294967295) && eqb (s .count) (s .params .«cma_symbols»)) ≡ ruleR4 s
   unfolding ruleR4 countFits
   r4-decision m = rw m
+
+-- ---- all four: R1 alone, where it fails, or with the others
+
+module _ (q : Equalizer) (a : Bool) (e : a ≡ ruleR1 q) where
+  pub rules-shape : a ≡ false → false ≡ rules q
+  unfolding rules
+  rules-shape f = rw (← e, f)
+
+  pub rules-rest : a ≡ true → (b c d : Bool) → b ≡ ruleR2 (q .state) → c ≡ ruleR3 q → d ≡ ruleR4 (q .state) → (b && c && d) ≡ rules q
+  unfolding rules
+  rules-rest t b c d x y z = rw (← e, t, ← x, ← y, ← z)

@@ -170,9 +170,13 @@ fn rule_r4(s: EqualizeState) -> bool
     }
 }
 
-// R1 to R4.
+// R1 to R4. R1 bounds both lengths, to 126 complex numbers, and is tried alone first: a longer slice is answered before a part of it is read. Test 1 has
+// asked for whole numbers, so at most 252 parts each of weights and window are looked at.
 pub fn rules(s: EqualizeState, w: &[f32], h: &[f32]) -> bool
     ensures { λ r. ⌜ r ≡ rulesDef (equalizer s (now (w .entry)) (now (h .entry))) ⌝ }
 {
-    rule_r1(s, w, h) & rule_r2(s) & rule_r3(s, w, h) & rule_r4(s)
+    if !rule_r1(s, w, h) {
+        return false;
+    }
+    rule_r2(s) & rule_r3(s, w, h) & rule_r4(s)
 }
