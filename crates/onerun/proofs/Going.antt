@@ -24,7 +24,7 @@ use Rattle.onerun.specs.declared.Shape.{Shape}
 use Rattle.onerun.specs.declared.Sampled.{Sampled}
 use Rattle.onerun.specs.Taken.{Lanes, Front, withTrack, Faced, Samples}
 use Rattle.onerun.specs.Passing.{Begun, Runs}
-use Rattle.record.proofs.Advance.{count-below}
+use Rattle.record_mode.proofs.Counts.{count-below}
 use Rattle.onerun.proofs.Folding.{Running, running-none, running-more, running-all}
 
 -- after k samples from q₀: weights and window, how far the block has come, what the arrays hold, and the mode

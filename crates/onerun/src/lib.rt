@@ -213,7 +213,7 @@ fn sample(
     let track = r.track;
     let out = r.z;
     lanes::run::feed(xr, xi, q, at + 152, fed);
-    let state = record::mode::advance(steps::with_track(s, track));
+    let state = record_mode::advance(steps::with_track(s, track));
     Sampled {
         state,
         out,

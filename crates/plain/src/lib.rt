@@ -114,7 +114,7 @@ fn sample_sized(
     feed(h, f, m, fed);
     let next = r.state;
     let out = r.out;
-    let state = record::mode::advance(next);
+    let state = record_mode::advance(next);
     Sampled {
         state,
         out,
