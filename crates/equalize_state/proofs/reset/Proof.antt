@@ -1,22 +1,23 @@
+-- `equalize_state::reset` answers as the definition: a refusal leaves all as it was, and the tests that were passed give the lengths that the start asks. Assumes nothing.
 use borrow.Author.Needs.{needs}
-use Rattle.equalize.proofs.Calls.{reset-refused, reset-done, reset-fits}
-use Rattle.equalize.proofs.reset.Statement.{statement}
-use Rattle.equalize.proofs.reset.Tie as tie
+use Rattle.equalize_state.proofs.Starts.{reset-refused, reset-done, reset-fits}
+use Rattle.equalize_state.proofs.reset.Statement.{statement}
+use Rattle.equalize_state.proofs.reset.Tie as tie
 
 reset-verdict-requires : tie.Need-reset-verdict-requires
 reset-verdict-requires c κs = search needs
 
-enum-known-v : tie.Need-enum-known-v
-enum-known-v c = search needs
-
 enum-told : tie.Need-enum-told
 enum-told c = search needs
+
+enum-told-2 : tie.Need-enum-told-2
+enum-told-2 c = search needs
 
 forward-requires : tie.Need-forward-requires
 forward-requires c κs = search needs
 
 start-over-requires : tie.Need-start-over-requires
-start-over-requires c κs = let e = c .before .before .before .before in reset-fits _ _ _ _ (e .before .before .reset-verdict .ensures) (e .enum-told .given .1) _ (c .before .before .forward .ensures)
+start-over-requires c κs = let e = c .before .before .before .before in reset-fits _ _ _ _ (e .before .before .reset-verdict .ensures) (e .enum-told2 .given .1) _ (c .before .before .forward .ensures)
 
 fresh-requires : tie.Need-fresh-requires
 fresh-requires c κs = search needs
@@ -44,8 +45,8 @@ reset-spec =
     tie.close
     (tie.spec
     reset-verdict-requires
-    enum-known-v
     enum-told
+    enum-told-2
     forward-requires
     start-over-requires
     fresh-requires

@@ -1,7 +1,8 @@
+-- `equalize_state::set_frequency` is the definition's: a NaN gives +0, and a number is flushed and held. Assumes nothing.
 use borrow.Author.Needs.{needs}
-use Rattle.equalize.proofs.Calls.{freq-nan, freq-number}
-use Rattle.equalize.proofs.set_frequency.Statement.{statement}
-use Rattle.equalize.proofs.set_frequency.Tie as tie
+use Rattle.equalize_state.proofs.Settings.{freq-nan, freq-number}
+use Rattle.equalize_state.proofs.set_frequency.Statement.{statement}
+use Rattle.equalize_state.proofs.set_frequency.Tie as tie
 
 returns : tie.Need-returns
 returns c = search freq-nan

@@ -1,8 +1,9 @@
+-- `equalize_state::new` answers as the definition: a refusal leaves all as it was, and the tests that were passed give the lengths that the start asks. Assumes nothing.
 use borrow.Author.Needs.{needs}
 use denote.Ref.{now}
-use Rattle.equalize.proofs.Calls.{new-refused, new-done, new-fits}
-use Rattle.equalize.proofs.new.Statement.{statement}
-use Rattle.equalize.proofs.new.Tie as tie
+use Rattle.equalize_state.proofs.Starts.{new-refused, new-done, new-fits}
+use Rattle.equalize_state.proofs.new.Statement.{statement}
+use Rattle.equalize_state.proofs.new.Tie as tie
 
 new-verdict-requires : tie.Need-new-verdict-requires
 new-verdict-requires c κs = search needs

@@ -1,7 +1,8 @@
+-- `equalize_state::fresh_state` is the record at the start, with the gains of its bandwidth. Assumes nothing.
 use borrow.Author.Needs.{needs}
-use Rattle.equalize.proofs.Calls.{fresh-is}
-use Rattle.equalize.proofs.fresh_state.Statement.{statement}
-use Rattle.equalize.proofs.fresh_state.Tie as tie
+use Rattle.equalize_state.proofs.Starts.{fresh-is}
+use Rattle.equalize_state.proofs.fresh_state.Statement.{statement}
+use Rattle.equalize_state.proofs.fresh_state.Tie as tie
 
 loop-gains-requires : tie.Need-loop-gains-requires
 loop-gains-requires c κs = search needs

@@ -1,8 +1,9 @@
+-- `equalize_state::start_over` leaves the start weights and a window of zeros, by its two callees. Assumes nothing.
 use borrow.Author.Needs.{needs}
 use denote.Ref.{now}
-use Rattle.equalize.proofs.Calls.{cleared}
-use Rattle.equalize.proofs.start_over.Statement.{statement}
-use Rattle.equalize.proofs.start_over.Tie as tie
+use Rattle.equalize_state.proofs.Starts.{cleared}
+use Rattle.equalize_state.proofs.start_over.Statement.{statement}
+use Rattle.equalize_state.proofs.start_over.Tie as tie
 
 start-weights-requires : tie.Need-start-weights-requires
 start-weights-requires c κs = search needs

@@ -1,12 +1,16 @@
+-- `equalize::equalize_paths` gives the definition's run: so does each of its two ways. Assumes nothing.
 use borrow.Author.Needs.{needs}
-use Rattle.equalize.proofs.serve.Statement.{statement}
-use Rattle.equalize.proofs.serve.Tie as tie
+use Rattle.equalize.proofs.equalize_paths.Statement.{statement}
+use Rattle.equalize.proofs.equalize_paths.Tie as tie
 
-run-requires : tie.Need-run-requires
-run-requires c κs = search needs
+by-runs-requires : tie.Need-by-runs-requires
+by-runs-requires c κs = search needs
 
 equalize-runs-requires : tie.Need-equalize-runs-requires
 equalize-runs-requires c κs = search needs
+
+run-requires : tie.Need-run-requires
+run-requires c κs = search needs
 
 same-length : tie.Need-same-length
 same-length c = search needs
@@ -38,12 +42,13 @@ same-length-8 c = search needs
 returns-2 : tie.Need-returns-2
 returns-2 c = search needs
 
-pub serve-spec : {M : Type 1} → statement M
-serve-spec =
+pub equalize-paths-spec : {M : Type 1} → statement M
+equalize-paths-spec =
     tie.close
     (tie.spec
-    run-requires
+    by-runs-requires
     equalize-runs-requires
+    run-requires
     same-length
     same-length-2
     same-length-3
