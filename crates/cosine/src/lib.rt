@@ -1,6 +1,4 @@
 // One entry of the cosine table. `tables::COS_BITS` is stored whole, 16 KB, wherever it is borrowed: that is for code which reads many entries.
-mod quarter;
-
 ghost use mathlib.Core.Path.{_≡_};
 ghost use Prim.Native.Nat.{_<_};
 ghost use Rattle.tables.specs.Table.{cosAt};
@@ -19,10 +17,10 @@ fn first_half(k: usize) -> f32
     ensures { λ r. ⌜ r ≡ cosAt k ⌝ }
 {
     if k < 1024 {
-        return f32::from_bits(quarter::entry(k));
+        return f32::from_bits(cosine_quarter::entry(k));
     }
     if k > 1024 {
-        return -f32::from_bits(quarter::entry(2048 - k));
+        return -f32::from_bits(cosine_quarter::entry(2048 - k));
     }
     0.0
 }

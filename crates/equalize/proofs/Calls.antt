@@ -1,35 +1,19 @@
--- The calls: one law for each exit. Assumes nothing.
-use Prim.Native.Nat.{ℕ, _*_, _-_, _/_, _%_, _≤_}
-use mathlib.Core.Path.{_≡_, refl, sym, _∙_, ap, subst}
-use mathlib.Core.Bool.{Bool, true, false, _&&_}
+-- An equalizing call: one law for each exit. Assumes nothing.
+use Prim.Native.Nat.{ℕ}
+use mathlib.Core.Path.{_≡_, sym, _∙_}
 use mathlib.Core.List.{List, []}
 use native.Mathlib.Omega.{arith}
-use lib.ListN.{length}
-use lib.Dec.{T, eqb, leb, leb→le}
-use borrow.Author.Tests.{eqb-true}
-use lib.Ieee.{Float, nan, inf, fin, isNan, ne}
-use Rattle.types.specs.declared.LoopGains.{LoopGains}
-use Rattle.types.specs.declared.EqParams.{EqParams}
+use lib.Ieee.{Float}
 use Rattle.types.specs.declared.EqualizeState.{EqualizeState}
-use Rattle.types.specs.declared.Fresh.the-variants.{Made, NotMade}
 use Rattle.types.specs.declared.Error.{Error}
-use Rattle.types.specs.declared.Error.the-variants.{Odd, Feedback, Taps, MuCma, MuDd, Record}
 use Rattle.types.specs.declared.Outcome.{Outcome}
 use Rattle.types.specs.declared.Outcome.the-variants.{Served, Refused}
-use Rattle.types.specs.Bits.{zero32}
-use Rattle.definition.specs.Floats.{maxFreq, flush, clip}
-use Rattle.definition.specs.Slices.{samplesOf, zeros, startWeights}
-use Rattle.definition.specs.Packed.{equalizer, answered, made, resetTo, settled, Shaped, Ran}
-use Rattle.definition.specs.Gains.{phaseDamping, loopGains}
-use Rattle.definition.specs.Sample.{withRunning}
+use Rattle.definition.specs.Slices.{samplesOf}
+use Rattle.definition.specs.Packed.{equalizer, answered, Shaped, Ran}
 use Rattle.definition.specs.Run.{runDef}
-use Rattle.definition.specs.Rules.{feedbackFits, tapsFit, muFits, ruleR1, ruleR2, rules}
-use Rattle.types.specs.Start.{startState}
-use Rattle.definition.specs.Calls.{even, newTests, newVerdict, startOver, freshState, newDef, resetVerdict, resetDef, withParams, withMus, setMuCmaDef, setMuDdDef, heldFreq, setFrequencyDef, lengthsOf, verdictDef, servedBy, equalizeDef}
-use Rattle.definition_laws.proofs.Verdicts.{both, fine, served-fits}
-use Rattle.record.proofs.Bits.{is-nan, no-nan}
-
--- ---- an equalizing call
+use Rattle.definition.specs.Rules.{rules}
+use Rattle.definition.specs.Calls.{lengthsOf, verdictDef, servedBy, equalizeDef}
+use Rattle.definition_laws.proofs.Verdicts.{served-fits}
 
 module _ (s : EqualizeState) (w h xs ys : List Float) (ms : List ℕ) (v : Outcome) (p : v ≡ verdictDef (rules (equalizer s w h)) (lengthsOf (equalizer s w h) xs ys ms)) where
   pub call-shaped : v ≡ Served → Shaped (equalizer s w h) xs ys ms
@@ -37,7 +21,7 @@ module _ (s : EqualizeState) (w h xs ys : List Float) (ms : List ℕ) (v : Outco
       let f = served-fits (equalizer s w h) xs ys ms (sym p ∙ e) in
       record { accepted = f .accepted; input = omega (arith, f .even-in, f .marks); output = omega (arith, f .even-in, f .even-out, f .marks, f .output) }
 
-  pub call-refused : (e : Error) → v ≡ Refused e → answered (record { state = s; outcome = Refused e }) w h ys ms ≡ equalizeDef (equalizer s w h) xs ys ms
+  pub call-refused : (e : Error) → v ≡ Refused e → answered (record { state = s; outcome = v }) w h ys ms ≡ equalizeDef (equalizer s w h) xs ys ms
   unfolding equalizeDef
   call-refused e d = rw (← p, d)
 
@@ -48,103 +32,3 @@ module _ (s : EqualizeState) (w h xs ys : List Float) (ms : List ℕ) (v : Outco
     where
       same : Ran (runDef (equalizer s w h) (samplesOf xs)) (equalizer t w′ h′) ys′ ms′ → answered (record { state = t; outcome = Served }) w′ h′ ys′ ms′ ≡ servedBy (runDef (equalizer s w h) (samplesOf xs))
       same r = λ i. record { outcome = Served; reply = []; equalizer = r .left i; out = r .out i; marks = r .marks i }
-
--- ---- new
-
-pub fresh-is : (p : EqParams) (g : LoopGains) (t : EqualizeState) → g ≡ loopGains (p .«phase_bw») phaseDamping → t ≡ startState p (g .kp) (g .ki) → t ≡ freshState p
-unfolding freshState loopGains
-fresh-is p g t e d = rw (d, e)
-
--- an odd number from 3 to 63 is at least 1
-pub fits-some : (n : ℕ) → tapsFit n ≡ true → 3 ≤ n
-unfolding tapsFit
-fits-some n h = leb→le 3 n (subst T (sym (both (eqb (n % 2) 1) (leb 3 n) (both (eqb (n % 2) 1 && leb 3 n) (leb n 63) h .0) .1)) tt)
-
-module _ (p : EqParams) (w h : List Float) (v : Outcome) (e : v ≡ newVerdict p (length w) (length h)) where
-  -- what `start_over` asks
-  pub new-fits : v ≡ Served → (f : ℕ) → f ≡ length w / 2 - p .«feedback_taps»
-      → (length w ≡ 2 * (length w / 2)) × ((length h ≡ 2 * (length w / 2)) × ((1 ≤ f) × (f ≤ length w / 2)))
-  unfolding newVerdict newTests
-  new-fits d f a =
-      let x = fine (even (length w) && even (length h)) Odd _ (sym e ∙ d) in
-      let y = fine _ Feedback _ (x .1) in
-      let z = fine _ Taps _ (y .1) in
-      let u = fine _ _ _ (z .1) in
-      let o = both (even (length w)) (even (length h)) (x .0) in
-      let W : length w % 2 ≡ 0 = eqb-true _ _ (o .0) in
-      let H : length h % 2 ≡ 0 = eqb-true _ _ (o .1) in
-      let S : length h / 2 ≡ length w / 2 = eqb-true _ _ (u .0) in
-      let B : 3 ≤ length w / 2 - p .«feedback_taps» = fits-some _ (z .0) in
-      (omega arith, (omega arith, (omega arith, omega arith)))
-
-  pub new-refused : (x : Error) → v ≡ Refused x → made (NotMade x) w h ≡ newDef p w h
-  unfolding newDef
-  new-refused x d = rw (← e, d)
-
-  pub new-done : v ≡ Served → (f : ℕ) (t : EqualizeState) (w′ h′ : List Float) → f ≡ length w / 2 - p .«feedback_taps» → t ≡ freshState p
-      → (w′ ≡ startWeights (length w / 2) (f / 2)) × (h′ ≡ zeros (2 * (length w / 2))) → made (Made t) w′ h′ ≡ newDef p w h
-  unfolding newDef startOver freshState startState
-  new-done d f t w′ h′ a b c = rw (← e, d, b, c .0, c .1, a)
-
--- ---- reset
-
-module _ (s : EqualizeState) (w h : List Float) (v : Outcome) (p : v ≡ resetVerdict (equalizer s w h)) where
-  pub reset-refused : (e : Error) → v ≡ Refused e → resetTo (record { state = s; outcome = Refused e }) w h ≡ resetDef (equalizer s w h)
-  unfolding resetDef
-  reset-refused e d = rw (← p, d)
-
-  pub reset-done : v ≡ Served → (f : ℕ) (t : EqualizeState) (w′ h′ : List Float) → f ≡ length w / 2 - s .params .«feedback_taps» → t ≡ startState (s .params) (s .kp) (s .ki)
-      → (w′ ≡ startWeights (length w / 2) (f / 2)) × (h′ ≡ zeros (2 * (length w / 2))) → resetTo (record { state = t; outcome = v }) w′ h′ ≡ resetDef (equalizer s w h)
-  unfolding resetDef startOver startState
-  reset-done d f t w′ h′ a b c = rw (← p, d, b, c .0, c .1, a)
-
-  pub reset-fits : v ≡ Served → (f : ℕ) → f ≡ length w / 2 - s .params .«feedback_taps»
-      → (length w ≡ 2 * (length w / 2)) × ((length h ≡ 2 * (length w / 2)) × ((1 ≤ f) × (f ≤ length w / 2)))
-  unfolding resetVerdict ruleR1
-  reset-fits d f a =
-      let x = fine (even (length w) && even (length h)) Odd _ (sym p ∙ d) in
-      let y = fine (ruleR1 (equalizer s w h) && ruleR2 s) Record _ (x .1) in
-      let o = both (even (length w)) (even (length h)) (x .0) in
-      let r = both (feedbackFits (s .params .«feedback_taps») && tapsFit (length w / 2 - s .params .«feedback_taps»)) (eqb (length w / 2) (length h / 2)) (both _ _ (y .0) .0) in
-      let t = both (feedbackFits (s .params .«feedback_taps»)) (tapsFit (length w / 2 - s .params .«feedback_taps»)) (r .0) in
-      let W : length w % 2 ≡ 0 = eqb-true _ _ (o .0) in
-      let H : length h % 2 ≡ 0 = eqb-true _ _ (o .1) in
-      let S : length w / 2 ≡ length h / 2 = eqb-true _ _ (r .1) in
-      let B : 3 ≤ length w / 2 - s .params .«feedback_taps» = fits-some _ (t .1) in
-      (omega arith, (omega arith, (omega arith, omega arith)))
-
-pub cleared : (h k : List Float) (n : ℕ) → length h ≡ 2 * n → k ≡ zeros (length h) → k ≡ zeros (2 * n)
-cleared h k n e d = d ∙ ap zeros e
-
--- ---- the setters
-
-module _ (s : EqualizeState) (mu : Float) (b : Bool) (e : b ≡ muFits mu) where
-  pub cma-no : b ≡ false → settled (record { state = s; outcome = Refused MuCma }) ≡ setMuCmaDef s mu
-  unfolding setMuCmaDef
-  cma-no h = rw (← e, h)
-
-  pub cma-yes : b ≡ true → settled (record { state = withParams s (withMus (s .params) mu (s .params .«mu_dd»)); outcome = Served }) ≡ setMuCmaDef s mu
-  unfolding setMuCmaDef
-  cma-yes h = rw (← e, h)
-
-  pub dd-no : b ≡ false → settled (record { state = s; outcome = Refused MuDd }) ≡ setMuDdDef s mu
-  unfolding setMuDdDef
-  dd-no h = rw (← e, h)
-
-  pub dd-yes : b ≡ true → settled (record { state = withParams s (withMus (s .params) (s .params .«mu_cma») mu); outcome = Served }) ≡ setMuDdDef s mu
-  unfolding setMuDdDef
-  dd-yes h = rw (← e, h)
-
-not-nan : (v : Float) → ne v v ≡ false → isNan v ≡ false
-unfolding isNan
-not-nan nan h = absurd (no-nan nan h)
-not-nan (inf s) h = refl
-not-nan (fin s m e) h = refl
-
-pub freq-nan : (s : EqualizeState) (v : Float) → ne v v ≡ true → withRunning s (s .mode) (s .count) (s .mse) (s .phase) zero32 ≡ setFrequencyDef s v
-unfolding setFrequencyDef heldFreq isNan
-freq-nan s v h = rw (is-nan v h)
-
-pub freq-number : (s : EqualizeState) (v r : Float) → ne v v ≡ false → r ≡ clip (flush v) maxFreq → withRunning s (s .mode) (s .count) (s .mse) (s .phase) r ≡ setFrequencyDef s v
-unfolding setFrequencyDef heldFreq
-freq-number s v r h e = rw (not-nan v h, e)

@@ -1,2 +1,2 @@
--- The calls: one law for each exit.
+-- An equalizing call: one law for each exit.
 pub mod Calls

@@ -18,7 +18,7 @@ pub fn equalize(
     ensures { λ r. ⌜ answered r (now (weights .exit)) (now (window .exit)) (now (output .exit)) (now (marks .exit))
         ≡ equalizeDef (equalizer state (now (weights .entry)) (now (window .entry))) (now (input .entry)) (now (output .entry)) (now (marks .entry)) ⌝ }
 {
-    let v = record::verdict::verdict(
+    let v = record_verdict::verdict(
         state,
         weights,
         window,
@@ -27,7 +27,7 @@ pub fn equalize(
         marks.len(),
     );
     match v {
-        Outcome::Refused(e) => Equalized { state, outcome: v },
+        Outcome::Refused(_) => Equalized { state, outcome: v },
         Outcome::Served => {
             let next = plain::run(state, weights, window, input, output, marks);
             Equalized {

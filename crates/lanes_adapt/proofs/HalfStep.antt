@@ -158,7 +158,7 @@ module _ (re im limit xr xi w h : List Float) (a o from base count K N : ℕ) (g
       };
     }
 
-    pub cleared-all : all ≡ true → Blank re″ im″ o 0 72
+    pub cleared-all : all ≡ true → Unused re″ im″ o 0 72
     cleared-all q = record {
       re-zero = λ i p b. cr .done i b ∙ clear-all _ _ all q;
       im-zero = λ i p b. ci .done i b ∙ clear-all _ _ all q;

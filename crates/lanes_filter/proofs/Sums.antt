@@ -30,7 +30,7 @@ module _ (x y c d : Float) (a : T (finite x)) (b : T (finite y)) (e : c ≡ zero
       rw (e, f, u .is, v .is) (zero-plus (u .sign) (v .sign))
 
 -- a padding lane's products
-module _ (xr xi wr wi : List Float) (a o i : ℕ) (from to : ℕ) (q : Calm xr xi 288) (b : Blank wr wi o from to) (l : from ≤ i) (h : i < to) (g : a + i < 288) where
+module _ (xr xi wr wi : List Float) (a o i : ℕ) (from to : ℕ) (q : Calm xr xi 288) (b : Unused wr wi o from to) (l : from ≤ i) (h : i < to) (g : a + i < 288) where
   pad-re : Zero (splitRe xr xi wr wi a o i)
   pad-re = zero-re (getD xr (a + i) nan) (getD xi (a + i) nan) (getD wr (o + i) nan) (getD wi (o + i) nan) (q .re-fine (a + i) g) (q .im-fine (a + i) g) (b .re-zero i l h) (b .im-zero i l h)
 
@@ -56,7 +56,7 @@ module _ (n m lanes more quads mquads at : ℕ) (wr wi xr xi w h : List Float)
   forth-lies : Lies xr xi (at + 0) h 0 n
   forth-lies = let e : at + 0 ≡ at = omega arith in rw e (q .forth)
 
-  forth-late : Blank wr wi 0 n 72
+  forth-late : Unused wr wi 0 n 72
   forth-late = let e : 0 + n ≡ n = omega arith in rw e at (p .forth .late)
 
   back-lies : Lies xr xi (at + 153 - n % 8 + n % 8) h n m

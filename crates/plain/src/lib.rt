@@ -91,7 +91,7 @@ fn sample_sized(
     let track = r.track;
     let out = r.out;
     let mark = r.mark;
-    let state = record::mode::advance(steps::with_track(s, track));
+    let state = record_mode::advance(steps::with_track(s, track));
     Sampled { state, out, mark }
 }
 

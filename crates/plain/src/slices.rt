@@ -100,7 +100,7 @@ pub(crate) fn update_weights(u: Update, w: &mut [f32], x: &[f32], n: usize, taps
         return;
     };
     renew(w, x, C32 { re: gr, im: gi }, n);
-    if !record::slices::all_finite(w) {
-        record::slices::start_weights(w, n, taps);
+    if !record_rules::all_finite(w) {
+        record_start::start_weights(w, n, taps);
     }
 }

@@ -26,7 +26,7 @@ use Rattle.steps.specs.declared.Sampled.{Sampled}
 use Rattle.run_samples.specs.Sample.{Lanes, Front, Before, Samples}
 use Rattle.steps.specs.Step.{withTrack, did}
 use Rattle.run_samples.specs.Run.{RunReady, Runs}
-use Rattle.record.proofs.Advance.{count-below}
+use Rattle.record_mode.proofs.Counts.{count-below}
 use Rattle.definition_laws.proofs.Progress.{Progress, progress-none, progress-more, progress-all}
 
 -- after k samples from q₀: weights and window, how far the block has come, what the arrays hold, and the mode

@@ -165,7 +165,7 @@ fn sample(
     let out = r.out;
     let mark = r.mark;
     lanes_sample::feed(xr, xi, q, at + 152, fed);
-    let state = record::mode::advance(steps::with_track(s, track));
+    let state = record_mode::advance(steps::with_track(s, track));
     Sampled { state, out, mark }
 }
 

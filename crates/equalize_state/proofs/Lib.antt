@@ -1,0 +1,3 @@
+-- Laws of `new` and `reset`, and of the setters.
+pub mod Starts
+pub mod Settings

@@ -1,0 +1,2 @@
+-- The count and the mode after a sample.
+pub mod Counts

@@ -1,0 +1,4 @@
+-- Laws that belong to no one function.
+pub mod Bits
+pub mod Elements
+pub mod Records
