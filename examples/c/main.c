@@ -9,7 +9,7 @@ enum { TAPS = 11, SAMPLES = 12 };
 
 int main(void)
 {
-    static const char *const says[] = {"heard", "blank", "spilled"};
+    static const char *const says[] = {[EQ_HEARD] = "heard", [EQ_BLANK] = "blank", [EQ_SPILLED] = "spilled"};
     float weights[2 * TAPS], window[2 * TAPS], input[2 * SAMPLES], output[2 * SAMPLES];
     uint8_t marks[SAMPLES];
     EqSettings settings = {0.02, 0, EQ_QPSK, 0.05f, 0.02f, 1000};
@@ -29,7 +29,8 @@ int main(void)
     r = eq_equalize(r.record, weights, 2 * TAPS, window, 2 * TAPS, input, 2 * SAMPLES, output, 2 * SAMPLES, marks, SAMPLES);
     printf("equalize: number %u, count %u, mean error %.4f\n", (unsigned)r.number, (unsigned)r.record.count, r.record.mse);
     for (int i = 0; i < SAMPLES; i++)
-        printf("%2d  %8.5f %8.5f  %s\n", i, output[2 * i], output[2 * i + 1], says[marks[i]]);
+        printf("%2d  %8.5f %8.5f  %s\n", i, output[2 * i], output[2 * i + 1],
+               marks[i] < sizeof says / sizeof *says ? says[marks[i]] : "unknown");
 
     /* one mark too few */
     r = eq_equalize(r.record, weights, 2 * TAPS, window, 2 * TAPS, input, 2 * SAMPLES, output, 2 * SAMPLES, marks, SAMPLES - 1);

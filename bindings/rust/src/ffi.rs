@@ -1,5 +1,5 @@
-//! The exported calls, as crates/capi declares them. Nothing checks this file against it: change
-//! both together, and include/equalizer.h.
+//! The exported calls, as crates/capi declares them, with the structs of crates/capi_numbers.
+//! Nothing checks this file against them: change all together, and include/equalizer.h.
 
 #[repr(C)]
 #[derive(Debug, Clone, Copy, PartialEq)]

@@ -95,10 +95,12 @@ pub enum Error {
         expected: usize,
         got: usize,
     },
+    /// A number that none of these has.
+    Unknown(u32),
 }
 
 impl Error {
-    /// The number of the refusal, 1 to 10.
+    /// The number of the refusal: 1 to 10, or one that is not known here.
     pub fn number(self) -> u32 {
         match self {
             Error::Odd => 1,
@@ -111,12 +113,16 @@ impl Error {
             Error::Record => 8,
             Error::Output { .. } => 9,
             Error::Marks { .. } => 10,
+            Error::Unknown(number) => number,
         }
     }
 }
 
 impl std::fmt::Display for Error {
     fn fmt(&self, f: &mut std::fmt::Formatter<'_>) -> std::fmt::Result {
+        if let Error::Unknown(number) = self {
+            return write!(f, "unknown refusal, number {number}");
+        }
         write!(f, "refused, number {}: {self:?}", self.number())
     }
 }
@@ -144,7 +150,7 @@ fn outcome(r: EqReply) -> Result<EqRecord, Error> {
         8 => Error::Record,
         9 => Error::Output { expected, got },
         10 => Error::Marks { expected, got },
-        _ => unreachable!("the library's numbers are 0 to 10"),
+        unknown => Error::Unknown(unknown),
     })
 }
 
@@ -426,5 +432,40 @@ fn record_in(r: EqRecord) -> Record {
         mse: r.mse,
         phase: r.phase,
         freq: r.freq,
+    }
+}
+
+#[cfg(test)]
+mod tests {
+    use super::*;
+
+    /// The outcome of a reply with this number and the lengths 3 and 4.
+    fn replied(number: u32) -> Result<EqRecord, Error> {
+        let e = Equalizer::new(3, Settings::default()).unwrap();
+        outcome(EqReply {
+            record: e.record,
+            number,
+            expected: 3,
+            got: 4,
+        })
+    }
+
+    #[test]
+    fn every_number() {
+        assert!(replied(0).is_ok());
+        for number in 1..=10 {
+            let e = replied(number).unwrap_err();
+            assert_eq!(e.number(), number);
+            assert!(!matches!(e, Error::Unknown(_)));
+            assert!(
+                e.to_string()
+                    .starts_with(&format!("refused, number {number}: "))
+            );
+        }
+        for number in [11, u32::MAX] {
+            let e = replied(number).unwrap_err();
+            assert_eq!((e, e.number()), (Error::Unknown(number), number));
+            assert_eq!(e.to_string(), format!("unknown refusal, number {number}"));
+        }
     }
 }

@@ -7,7 +7,8 @@ use types::EqConstellation;
 use types::EqParams;
 
 pub(crate) struct Options {
-    constellation: usize,
+    // By its number, which can be set in place.
+    constellation: u32,
     pub(crate) taps: usize,
     pub(crate) feedback: usize,
     mu_cma: f32,
@@ -56,7 +57,7 @@ impl Options {
         let p = EqParams::default();
         let k = p.constellation;
         Options {
-            constellation: number_of(k),
+            constellation: types::constellation_number(k),
             taps: 11,
             feedback: p.feedback_taps,
             mu_cma: p.mu_cma,
@@ -77,33 +78,13 @@ impl Options {
 
     pub(crate) fn params(self) -> EqParams {
         EqParams {
-            constellation: constellation_of(self.constellation),
+            constellation: types::constellation_of(self.constellation),
             feedback_taps: self.feedback,
             mu_cma: self.mu_cma,
             mu_dd: self.mu_dd,
             cma_symbols: self.cma_symbols,
             phase_bw: self.bandwidth,
         }
-    }
-}
-
-fn number_of(k: EqConstellation) -> usize {
-    match k {
-        EqConstellation::Bpsk => 0,
-        EqConstellation::Qpsk => 1,
-        EqConstellation::Psk8 => 2,
-        EqConstellation::Qam16 => 3,
-        EqConstellation::Qam64 => 4,
-    }
-}
-
-fn constellation_of(n: usize) -> EqConstellation {
-    match n {
-        0 => EqConstellation::Bpsk,
-        1 => EqConstellation::Qpsk,
-        2 => EqConstellation::Psk8,
-        3 => EqConstellation::Qam16,
-        _ => EqConstellation::Qam64,
     }
 }
 
@@ -223,14 +204,21 @@ fn read_block(o: Options, value: &[u8]) -> Set {
     }
 }
 
-fn read_constellation(o: Options, value: &[u8]) -> Set {
-    let c = place(b"bpsk qpsk 8psk 16qam 64qam ", value);
-    if c > 4 {
-        return Set::Unreadable;
-    }
+fn with_constellation(o: Options, k: EqConstellation) -> Set {
     let mut n = o;
-    n.constellation = c;
+    n.constellation = types::constellation_number(k);
     Set::To(n)
+}
+
+fn read_constellation(o: Options, value: &[u8]) -> Set {
+    match place(b"bpsk qpsk 8psk 16qam 64qam ", value) {
+        0 => with_constellation(o, EqConstellation::Bpsk),
+        1 => with_constellation(o, EqConstellation::Qpsk),
+        2 => with_constellation(o, EqConstellation::Psk8),
+        3 => with_constellation(o, EqConstellation::Qam16),
+        4 => with_constellation(o, EqConstellation::Qam64),
+        _ => Set::Unreadable,
+    }
 }
 
 fn read_path(o: Options, value: &[u8]) -> Set {

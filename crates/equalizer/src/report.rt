@@ -78,11 +78,37 @@ fn reason(p: &mut Page, at: usize, e: Error) -> usize {
         Error::Odd => text::words(p, at, b"a complex slice has an odd count of f32"),
         Error::Feedback => text::words(p, at, b"over 63 feedback taps"),
         Error::Taps => text::words(p, at, b"forward taps even or outside 3 to 63"),
+        Error::Window { expected, got } => {
+            lengths(
+                p,
+                at,
+                b"the window's length is not the weights': ",
+                expected,
+                got,
+            )
+        }
         Error::MuCma => text::words(p, at, b"mu-cma outside 0.00001 to 1"),
         Error::MuDd => text::words(p, at, b"mu-dd outside 0.00001 to 1"),
         Error::Bandwidth => text::words(p, at, b"bandwidth neither 0 nor 0.0001 to 0.2"),
         Error::Record => text::words(p, at, b"the record breaks a rule"),
-        _ => text::words(p, at, b"the lengths of two slices differ"),
+        Error::Output { expected, got } => {
+            lengths(
+                p,
+                at,
+                b"the output's length is not the input's: ",
+                expected,
+                got,
+            )
+        }
+        Error::Marks { expected, got } => {
+            lengths(
+                p,
+                at,
+                b"the marks' length is not the input's: ",
+                expected,
+                got,
+            )
+        }
     }
 }
 
@@ -96,12 +122,28 @@ fn measured(p: &mut Page, start: usize, what: &[u8], x: f32) -> usize {
     text::float(p, at, x)
 }
 
+// Words, and the two lengths of a refusal.
+fn lengths(p: &mut Page, start: usize, what: &[u8], expected: usize, got: usize) -> usize {
+    let a = text::words(p, start, what);
+    let b = counted(p, a, expected as u64, b" expected, ");
+    counted(p, b, got as u64, b" given")
+}
+
 pub(crate) fn refused(o: Options, e: Error) {
     let mut p = [0u8; 4096];
     let a = begin(&mut p, o, b"refused, number ");
     let b = counted(&mut p, a, types::error_number(e) as u64, b": ");
     let c = reason(&mut p, b, e);
     tell(&mut p, c, o);
+}
+
+// Bytes that are no marks are named only where there are some.
+fn unknown(p: &mut Page, start: usize, n: u64) -> usize {
+    if n == 0 {
+        return start;
+    }
+    let at = text::words(p, start, b", ");
+    counted(p, at, n, b" unknown")
 }
 
 fn counts(o: Options, t: Tally) {
@@ -111,7 +153,8 @@ fn counts(o: Options, t: Tally) {
     let c = counted(&mut p, b, t.heard, b" heard, ");
     let d = counted(&mut p, c, t.blank, b" blank, ");
     let e = counted(&mut p, d, t.spilled, b" spilled");
-    tell(&mut p, e, o);
+    let f = unknown(&mut p, e, t.unknown);
+    tell(&mut p, f, o);
 }
 
 fn record(o: Options, s: EqualizeState) {

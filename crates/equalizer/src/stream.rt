@@ -13,6 +13,7 @@ use crate::text::Page;
 use types::EqualizeState;
 use types::Equalized;
 use types::Error;
+use types::Mark;
 use types::Outcome;
 
 pub(crate) struct Tally {
@@ -20,6 +21,8 @@ pub(crate) struct Tally {
     pub(crate) heard: u64,
     pub(crate) blank: u64,
     pub(crate) spilled: u64,
+    // Bytes that are no mark's number.
+    pub(crate) unknown: u64,
 }
 
 impl Tally {
@@ -28,6 +31,7 @@ impl Tally {
         heard: 0,
         blank: 0,
         spilled: 0,
+        unknown: 0,
     };
 }
 
@@ -56,7 +60,10 @@ impl Done {
         let e = self.ending;
         match e {
             Ending::Whole => true,
-            _ => false,
+            Ending::Truncated(_) => false,
+            Ending::Unread => false,
+            Ending::Unwritten => false,
+            Ending::Refused(_) => false,
         }
     }
 }
@@ -110,7 +117,7 @@ fn fill(fd: i32, raw: &mut [u8], want: usize) -> Filled
     }
 }
 
-// One call, on the first n samples. Until there is a quick path, `fast` is the plain one too.
+// One call, on the first n samples: by the plain path, or by the quick or the joint one.
 fn call(
     plain: bool,
     state: EqualizeState,
@@ -151,10 +158,14 @@ fn one_more(n: u64) -> u64 {
 fn with_mark(t: Tally, mark: u8) -> Tally {
     let mut n = t;
     n.samples = one_more(t.samples);
-    match mark {
-        0 => n.heard = one_more(t.heard),
-        1 => n.blank = one_more(t.blank),
-        _ => n.spilled = one_more(t.spilled),
+    if !types::known_mark(mark) {
+        n.unknown = one_more(t.unknown);
+        return n;
+    }
+    match types::mark_of(mark) {
+        Mark::Heard => n.heard = one_more(t.heard),
+        Mark::Blank => n.blank = one_more(t.blank),
+        Mark::Spilled => n.spilled = one_more(t.spilled),
     }
     n
 }

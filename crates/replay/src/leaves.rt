@@ -12,6 +12,7 @@ use crate::words::Words;
 use crate::words::floats;
 use types::C32;
 use types::CosSin;
+use types::EqConstellation;
 use types::Qam;
 
 pub(crate) enum Leaf {
@@ -193,14 +194,15 @@ fn octant_point(w: &Words) -> bool {
 }
 
 fn decide_level(w: &Words) -> bool {
+    let Numbered::Known(k) = constellation_of(w[0]) else {
+        return false;
+    };
     let v = single(w[1]);
-    if w[0] == 3 {
-        return constellation::decide_level(Qam::Qam16, v) as u64 == w[2];
+    match k {
+        EqConstellation::Qam16 => constellation::decide_level(Qam::Qam16, v) as u64 == w[2],
+        EqConstellation::Qam64 => constellation::decide_level(Qam::Qam64, v) as u64 == w[2],
+        EqConstellation::Bpsk | EqConstellation::Qpsk | EqConstellation::Psk8 => false,
     }
-    if w[0] == 4 {
-        return constellation::decide_level(Qam::Qam64, v) as u64 == w[2];
-    }
-    false
 }
 
 fn decide(w: &Words) -> bool {

@@ -92,7 +92,13 @@ fn lengths_of(e: Error) -> Lengths {
         Error::Window { expected, got } => Lengths { expected, got },
         Error::Output { expected, got } => Lengths { expected, got },
         Error::Marks { expected, got } => Lengths { expected, got },
-        _ => Lengths {
+        Error::Odd
+        | Error::Feedback
+        | Error::Taps
+        | Error::MuCma
+        | Error::MuDd
+        | Error::Bandwidth
+        | Error::Record => Lengths {
             expected: 0,
             got: 0,
         },

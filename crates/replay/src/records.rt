@@ -10,7 +10,6 @@ use crate::words::Floats;
 use crate::words::Words;
 use crate::words::same_floats;
 use types::EqConstellation;
-use types::EqMode;
 use types::EqParams;
 use types::EqualizeState;
 
@@ -25,32 +24,12 @@ pub(crate) enum Numbered {
     Unknown,
 }
 
-pub(crate) fn constellation_of(n: u64) -> Numbered {
-    match n {
-        0 => Numbered::Known(EqConstellation::Bpsk),
-        1 => Numbered::Known(EqConstellation::Qpsk),
-        2 => Numbered::Known(EqConstellation::Psk8),
-        3 => Numbered::Known(EqConstellation::Qam16),
-        4 => Numbered::Known(EqConstellation::Qam64),
-        _ => Numbered::Unknown,
+pub(crate) fn constellation_of(w: u64) -> Numbered {
+    let n = whole(w);
+    if n as u64 == w && types::known_constellation(n) {
+        return Numbered::Known(types::constellation_of(n));
     }
-}
-
-fn number_of(k: EqConstellation) -> u64 {
-    match k {
-        EqConstellation::Bpsk => 0,
-        EqConstellation::Qpsk => 1,
-        EqConstellation::Psk8 => 2,
-        EqConstellation::Qam16 => 3,
-        EqConstellation::Qam64 => 4,
-    }
-}
-
-fn mode_number(m: EqMode) -> u64 {
-    match m {
-        EqMode::Cma => 0,
-        EqMode::Decision => 1,
-    }
+    Numbered::Unknown
 }
 
 // The 14 words from a place on.
@@ -81,18 +60,15 @@ pub(crate) fn record_of(r: &[u64; 14]) -> Found {
     let Numbered::Known(k) = constellation_of(r[0]) else {
         return Found::Nothing;
     };
-    if r[9] > 1 {
+    let m = whole(r[9]);
+    if m as u64 != r[9] || !types::known_mode(m) {
         return Found::Nothing;
     }
     Found::Record(EqualizeState {
         params: params_of(r, k),
         kp: single(r[7]),
         ki: single(r[8]),
-        mode: if r[9] == 0 {
-            EqMode::Cma
-        } else {
-            EqMode::Decision
-        },
+        mode: types::mode_of(m),
         count: whole(r[10]),
         mse: single(r[11]),
         phase: whole(r[12]),
@@ -102,7 +78,7 @@ pub(crate) fn record_of(r: &[u64; 14]) -> Found {
 
 fn same_params(p: EqParams, r: &[u64; 14]) -> bool {
     let k = p.constellation;
-    (number_of(k) == r[0])
+    (types::constellation_number(k) as u64 == r[0])
         & (p.feedback_taps as u64 == r[1])
         & same(p.mu_cma, r[2])
         & same(p.mu_dd, r[3])
@@ -116,7 +92,7 @@ pub(crate) fn same_record(s: EqualizeState, r: &[u64; 14]) -> bool {
     same_params(params, r)
         & same(s.kp, r[7])
         & same(s.ki, r[8])
-        & (mode_number(mode) == r[9])
+        & (types::mode_number(mode) as u64 == r[9])
         & (s.count as u64 == r[10])
         & same(s.mse, r[11])
         & (s.phase as u64 == r[12])

@@ -1,3 +1,4 @@
+-- `eq_new` replies and leaves what `newRaw` says: one law of Laws for an unknown number, one for all else.
 use borrow.Author.Tests.{not-true, not-false}
 use Rattle.capi.proofs.Laws.{new-unknown, new-known}
 use borrow.Author.Needs.{needs}

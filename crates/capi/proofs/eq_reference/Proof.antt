@@ -1,3 +1,4 @@
+-- `eq_reference` replies and leaves what `equalizeRaw` says: one law of Laws for an unknown number, one for all else.
 use borrow.Author.Tests.{not-true, not-false}
 use Rattle.capi.proofs.Laws.{block-unknown, block-known}
 use borrow.Author.Needs.{needs}

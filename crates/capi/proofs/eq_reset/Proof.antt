@@ -1,3 +1,4 @@
+-- `eq_reset` replies and leaves what `resetRaw` says: one law of Laws for an unknown number, one for all else.
 use borrow.Author.Tests.{not-true, not-false}
 use Rattle.capi.proofs.Laws.{reset-unknown, reset-known}
 use borrow.Author.Needs.{needs}

@@ -1,3 +1,4 @@
+-- `eq_set_frequency` replies what `setFrequencyRaw` says: one law of Laws for an unknown number, one for all else.
 use borrow.Author.Tests.{not-true, not-false}
 use Rattle.capi.proofs.Laws.{frequency-unknown, frequency-known}
 use borrow.Author.Needs.{needs}

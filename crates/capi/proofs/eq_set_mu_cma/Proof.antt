@@ -1,3 +1,4 @@
+-- `eq_set_mu_cma` replies what `setMuCmaRaw` says: one law of Laws for an unknown number, one for all else.
 use borrow.Author.Tests.{not-true, not-false}
 use Rattle.capi.proofs.Laws.{cma-unknown, cma-known}
 use borrow.Author.Needs.{needs}

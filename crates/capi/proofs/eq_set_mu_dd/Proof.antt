@@ -1,3 +1,4 @@
+-- `eq_set_mu_dd` replies what `setMuDdRaw` says: one law of Laws for an unknown number, one for all else.
 use borrow.Author.Tests.{not-true, not-false}
 use Rattle.capi.proofs.Laws.{dd-unknown, dd-known}
 use borrow.Author.Needs.{needs}

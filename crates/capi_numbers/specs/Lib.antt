@@ -1,0 +1,2 @@
+-- The record as numbers, and the reply.
+pub mod RawRecord
