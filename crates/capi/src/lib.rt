@@ -2,8 +2,6 @@
 use capi_numbers::EqRecord;
 use capi_numbers::EqReply;
 use capi_numbers::EqSettings;
-use capi_numbers::all_even;
-use capi_numbers::evens;
 use capi_numbers::fresh_reply;
 use capi_numbers::known_record;
 use capi_numbers::known_settings;
@@ -23,10 +21,13 @@ pub extern "C" fn eq_new(settings: EqSettings, weights: &mut [f32], window: &mut
     ensures { λ r. ⌜ filter r (now (weights .exit)) (now (window .exit)) ≡ newRaw settings (now (weights .entry)) (now (window .entry)) ⌝ }
 {
     if !known_settings(settings) {
-        return unknown(no_record(), evens(weights.len(), window.len()));
+        return unknown(
+            no_record(),
+            record_verdict::both_even(weights.len(), window.len()),
+        );
     }
     let params = settings_in(settings);
-    let f = equalize::new(weights, window, params);
+    let f = equalize_state::new(weights, window, params);
     fresh_reply(f)
 }
 
@@ -36,10 +37,10 @@ pub extern "C" fn eq_reset(raw: EqRecord, weights: &mut [f32], window: &mut [f32
     ensures { λ r. ⌜ filter r (now (weights .exit)) (now (window .exit)) ≡ resetRaw raw (now (weights .entry)) (now (window .entry)) ⌝ }
 {
     if !known_record(raw) {
-        return unknown(raw, evens(weights.len(), window.len()));
+        return unknown(raw, record_verdict::both_even(weights.len(), window.len()));
     }
     let state = record_in(raw);
-    let e = equalize::reset(state, weights, window);
+    let e = equalize_state::reset(state, weights, window);
     reply(e)
 }
 
@@ -52,7 +53,7 @@ pub extern "C" fn eq_set_mu_cma(raw: EqRecord, mu: f32) -> EqReply
         return unknown(raw, true);
     }
     let state = record_in(raw);
-    let e = equalize::set_mu_cma(state, mu);
+    let e = equalize_state::set_mu_cma(state, mu);
     reply(e)
 }
 
@@ -65,7 +66,7 @@ pub extern "C" fn eq_set_mu_dd(raw: EqRecord, mu: f32) -> EqReply
         return unknown(raw, true);
     }
     let state = record_in(raw);
-    let e = equalize::set_mu_dd(state, mu);
+    let e = equalize_state::set_mu_dd(state, mu);
     reply(e)
 }
 
@@ -78,7 +79,7 @@ pub extern "C" fn eq_set_frequency(raw: EqRecord, freq: f32) -> EqReply
         return unknown(raw, true);
     }
     let state = record_in(raw);
-    let next = equalize::set_frequency(state, freq);
+    let next = equalize_state::set_frequency(state, freq);
     served(record_out(next))
 }
 
@@ -98,7 +99,7 @@ pub extern "C" fn eq_equalize(
     if !known_record(raw) {
         return unknown(
             raw,
-            all_even(weights.len(), window.len(), input.len(), output.len()),
+            record_verdict::all_even(weights.len(), window.len(), input.len(), output.len()),
         );
     }
     let state = record_in(raw);
@@ -122,7 +123,7 @@ pub extern "C" fn eq_reference(
     if !known_record(raw) {
         return unknown(
             raw,
-            all_even(weights.len(), window.len(), input.len(), output.len()),
+            record_verdict::all_even(weights.len(), window.len(), input.len(), output.len()),
         );
     }
     let state = record_in(raw);

@@ -6,10 +6,8 @@ use types::Error;
 use types::Fresh;
 use types::Outcome;
 ghost use mathlib.Core.Path.{_≡_};
-ghost use mathlib.Core.Bool.{_&&_};
 ghost use lib.ListN.{getD};
 ghost use Rattle.definition.specs.Refusals.{replyOf, freshReply, errorValues};
-ghost use Rattle.definition.specs.Calls.{even as evenDef};
 ghost use Rattle.capi_numbers.specs.RawRecord.{knownSettings, knownRecord, settingsIn, recordIn, settingsOut, recordOut, noRecord, replied, unknown as unknownDef, freshOut};
 
 // The settings. Constellations: 0 BPSK, 1 QPSK, 2 8-PSK, 3 16-QAM, 4 64-QAM.
@@ -225,19 +223,6 @@ pub fn unknown(state: EqRecord, evens: bool) -> EqReply
         return refused(state, Error::Record);
     }
     refused(state, Error::Odd)
-}
-
-// Whether two lengths are even; then four.
-pub fn evens(a: usize, b: usize) -> bool
-    ensures { λ r. ⌜ r ≡ (evenDef a && evenDef b) ⌝ }
-{
-    (a % 2 == 0) & (b % 2 == 0)
-}
-
-pub fn all_even(w: usize, h: usize, xs: usize, ys: usize) -> bool
-    ensures { λ r. ⌜ r ≡ (evenDef w && evenDef h && evenDef xs && evenDef ys) ⌝ }
-{
-    (w % 2 == 0) & (h % 2 == 0) & (xs % 2 == 0) & (ys % 2 == 0)
 }
 
 // What new answers, as numbers.

@@ -32,7 +32,7 @@ abbrev pub settled : Equalized → SetAnswer
 settled r = setAnswer (r .outcome) (r .state)
 
 -- what the run over a block asks of its slices, once the call is served
-pub record Shaped (q : Equalizer) (xs ys : List Float) (ms : List ℕ) : Type 0 where
+pub record ServedBlock (q : Equalizer) (xs ys : List Float) (ms : List ℕ) : Type 0 where
   pub accepted : acceptedDef q ≡ true
   pub input : length xs ≡ 2 * length ms
   pub output : length ys ≡ 2 * length ms

@@ -9,14 +9,14 @@ use Rattle.types.specs.declared.Error.{Error}
 use Rattle.types.specs.declared.Outcome.{Outcome}
 use Rattle.types.specs.declared.Outcome.the-variants.{Served, Refused}
 use Rattle.definition.specs.Slices.{samplesOf}
-use Rattle.definition.specs.Packed.{equalizer, answered, Shaped, Ran}
+use Rattle.definition.specs.Packed.{equalizer, answered, ServedBlock, Ran}
 use Rattle.definition.specs.Run.{runDef}
 use Rattle.definition.specs.Rules.{rules}
 use Rattle.definition.specs.Calls.{lengthsOf, verdictDef, servedBy, equalizeDef}
 use Rattle.definition_laws.proofs.Verdicts.{served-fits}
 
 module _ (s : EqualizeState) (w h xs ys : List Float) (ms : List ℕ) (v : Outcome) (p : v ≡ verdictDef (rules (equalizer s w h)) (lengthsOf (equalizer s w h) xs ys ms)) where
-  pub call-shaped : v ≡ Served → Shaped (equalizer s w h) xs ys ms
+  pub call-shaped : v ≡ Served → ServedBlock (equalizer s w h) xs ys ms
   call-shaped e =
       let f = served-fits (equalizer s w h) xs ys ms (sym p ∙ e) in
       record { accepted = f .accepted; input = omega (arith, f .even-in, f .marks); output = omega (arith, f .even-in, f .even-out, f .marks, f .output) }

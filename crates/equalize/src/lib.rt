@@ -8,7 +8,7 @@ pub mod reference;
 
 ghost use mathlib.Core.Path.{_≡_};
 ghost use Rattle.definition.specs.Slices.{samplesOf};
-ghost use Rattle.definition.specs.Packed.{equalizer, answered, Shaped, Ran};
+ghost use Rattle.definition.specs.Packed.{equalizer, answered, ServedBlock, Ran};
 ghost use Rattle.definition.specs.Run.{runDef};
 ghost use Rattle.definition.specs.Calls.{equalizeDef};
 
@@ -29,7 +29,7 @@ fn equalize_paths(
     output: &mut [f32],
     marks: &mut [u8],
 ) -> EqualizeState
-    requires { ⌜ Shaped (equalizer state (now weights) (now window)) (now input) (now output) (now marks) ⌝ }
+    requires { ⌜ ServedBlock (equalizer state (now weights) (now window)) (now input) (now output) (now marks) ⌝ }
     ensures { λ r. ⌜ Ran (runDef (equalizer state (now (weights .entry)) (now (window .entry))) (samplesOf (now (input .entry))))
         (equalizer r (now (weights .exit)) (now (window .exit))) (now (output .exit)) (now (marks .exit)) ⌝ }
 {

@@ -84,10 +84,10 @@ fn job(o: Options) {
 }
 
 fn start(o: Options, weights: &mut [f32], window: &mut [f32]) {
-    match equalize::new(weights, window, o.params()) {
+    match equalize_state::new(weights, window, o.params()) {
         Fresh::NotMade(e) => report::refused(o, e),
         Fresh::Made(s) => {
-            let state = equalize::set_frequency(s, o.frequency);
+            let state = equalize_state::set_frequency(s, o.frequency);
             with_files(o, state, weights, window);
         }
     }

@@ -9,7 +9,7 @@ use Rattle.types.specs.declared.C32.{C32}
 use Rattle.types.specs.Numbers.{markNumber}
 use Rattle.definition.specs.Floats.{complex}
 use Rattle.definition.specs.Slices.{samplesOf}
-use Rattle.definition.specs.Packed.{equalizer, Shaped, Ran}
+use Rattle.definition.specs.Packed.{equalizer, ServedBlock, Ran}
 use Rattle.definition.specs.Sample.{Equalizer, sampleDef}
 use Rattle.definition.specs.Run.{runDef}
 use Rattle.definition_laws.proofs.Progress.{Progress, progress-none, progress-more, progress-all}
@@ -18,7 +18,7 @@ use Rattle.steps.specs.Step.{did}
 
 -- how far the loop has come: the lengths, the place, and the block's progress
 pub record Turns (q₀ : Equalizer) (xs ys₀ : List Float) (ms₀ : List ℕ) (q : Equalizer) (ys : List Float) (ms : List ℕ) (i k : ℕ) : Type 0 where
-  pub shaped : Shaped q xs ys ms
+  pub shaped : ServedBlock q xs ys ms
   pub long-ws : length (q .weights) ≡ length (q₀ .weights)
   pub long-w : length (q .window) ≡ length (q₀ .window)
   pub long-ys : length ys ≡ length ys₀
@@ -27,7 +27,7 @@ pub record Turns (q₀ : Equalizer) (xs ys₀ : List Float) (ms₀ : List ℕ) (
   pub within : i ≤ length ms
   pub done : Progress q₀ xs q ys ms i k
 
-pub turns-none : (q : Equalizer) (xs ys : List Float) (ms : List ℕ) → Shaped q xs ys ms → Turns q xs ys ms q ys ms 0 0
+pub turns-none : (q : Equalizer) (xs ys : List Float) (ms : List ℕ) → ServedBlock q xs ys ms → Turns q xs ys ms q ys ms 0 0
 turns-none q xs ys ms h = record { shaped = h; long-ws = refl; long-w = refl; long-ys = refl; long-ms = refl; place = refl; within = omega arith; done = progress-none q xs ys ms (h .accepted) }
 
 module _ (q₀ : Equalizer) (xs ys₀ : List Float) (ms₀ : List ℕ) (q : Equalizer) (ys : List Float) (ms : List ℕ) (i k : ℕ) (g : Turns q₀ xs ys₀ ms₀ q ys ms i k) where

@@ -13,7 +13,7 @@ ghost use mathlib.Core.List.{_++_};
 ghost use Prim.Native.Nat.{_+_, _*_, _≤_};
 ghost use lib.ListN.{length, take, drop};
 ghost use Rattle.definition.specs.Slices.{shifted, samplesOf};
-ghost use Rattle.definition.specs.Packed.{equalizer, Shaped, Ran};
+ghost use Rattle.definition.specs.Packed.{equalizer, ServedBlock, Ran};
 ghost use Rattle.definition.specs.Sample.{sanitized, step2, step3, hear as hearDef, heardAs, sampleDef};
 ghost use Rattle.definition.specs.Rules.{ruleR4, acceptedDef};
 ghost use Rattle.definition.specs.Run.{runDef};
@@ -115,7 +115,7 @@ pub fn run(
     output: &mut [f32],
     marks: &mut [u8],
 ) -> EqualizeState
-    requires { ⌜ Shaped (equalizer state (now weights) (now window)) (now input) (now output) (now marks) ⌝ }
+    requires { ⌜ ServedBlock (equalizer state (now weights) (now window)) (now input) (now output) (now marks) ⌝ }
     ensures { λ r. ⌜ Ran (runDef (equalizer state (now (weights .entry)) (now (window .entry))) (samplesOf (now (input .entry))))
         (equalizer r (now (weights .exit)) (now (window .exit))) (now (output .exit)) (now (marks .exit)) ⌝ }
 {

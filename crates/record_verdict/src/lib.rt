@@ -13,14 +13,14 @@ ghost use Rattle.definition.specs.Rules.{rules as rulesDef};
 ghost use Rattle.definition.specs.Calls.{even, tapTests, settingTests, newVerdict, resetVerdict, verdictDef};
 
 // Test 1 of weights and window.
-fn both_even(lw: usize, lh: usize) -> bool
+pub fn both_even(lw: usize, lh: usize) -> bool
     ensures { λ r. ⌜ r ≡ (even lw && even lh) ⌝ }
 {
     (lw % 2 == 0) & (lh % 2 == 0)
 }
 
 // Test 1 of all four slices.
-fn all_even(lw: usize, lh: usize, xs: usize, ys: usize) -> bool
+pub fn all_even(lw: usize, lh: usize, xs: usize, ys: usize) -> bool
     ensures { λ r. ⌜ r ≡ (even lw && even lh && even xs && even ys) ⌝ }
 {
     (lw % 2 == 0) & (lh % 2 == 0) & (xs % 2 == 0) & (ys % 2 == 0)

@@ -37,7 +37,7 @@ pub(crate) fn words_of(w: &Words) -> usize {
 // A record that is not made is the one that was handed.
 fn new(given: EqualizeState, weights: &mut [f32], window: &mut [f32]) -> Equalized {
     let params = given.params;
-    match equalize::new(weights, window, params) {
+    match equalize_state::new(weights, window, params) {
         Fresh::Made(state) => Equalized {
             state,
             outcome: Outcome::Served,
@@ -58,11 +58,11 @@ fn operate(
 ) -> Equalized {
     match operation {
         0 => new(s, weights, window),
-        1 => equalize::reset(s, weights, window),
-        2 => equalize::set_mu_cma(s, x),
-        3 => equalize::set_mu_dd(s, x),
+        1 => equalize_state::reset(s, weights, window),
+        2 => equalize_state::set_mu_cma(s, x),
+        3 => equalize_state::set_mu_dd(s, x),
         _ => Equalized {
-            state: equalize::set_frequency(s, x),
+            state: equalize_state::set_frequency(s, x),
             outcome: Outcome::Served,
         },
     }

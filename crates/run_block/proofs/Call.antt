@@ -95,5 +95,5 @@ call-is s w h xs ys₀ ms₀ n m g limit a wr wi xr xi sq ys ms r w′ h′ q f 
     record { left = rw (back .0, back .1) (z .ran .left); out = z .ran .out; marks = z .ran .marks }
 
 -- ---- `equalize_linear`
-pub feedback-fits : (s : EqualizeState) (w h xs ys : List Float) (ms : List ℕ) → packed.Shaped (equalizer s w h) xs ys ms → s .params .«feedback_taps» ≤ length w / 2
+pub feedback-fits : (s : EqualizeState) (w h xs ys : List Float) (ms : List ℕ) → packed.ServedBlock (equalizer s w h) xs ys ms → s .params .«feedback_taps» ≤ length w / 2
 feedback-fits s w h xs ys ms t = let z = shape (equalizer s w h) (accepted-parts (equalizer s w h) (subst T (sym (t .accepted)) tt)) in omega (arith, z .sum, z .some)

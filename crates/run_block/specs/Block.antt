@@ -10,7 +10,7 @@ use Rattle.types.specs.declared.EqualizeState.{EqualizeState}
 use Rattle.types.specs.Bits.{zero32}
 use Rattle.definition.specs.Floats.{complex}
 use Rattle.definition.specs.Slices.{reAt, imAt, power, samplesOf}
-use Rattle.definition.specs.Packed.{equalizer, Shaped, Ran}
+use Rattle.definition.specs.Packed.{equalizer, ServedBlock, Ran}
 use Rattle.definition.specs.Sample.{Equalizer, forward, feedback}
 use Rattle.definition.specs.Rules.{acceptedDef, ruleR4}
 use Rattle.definition.specs.Run.{runDef}
@@ -87,6 +87,6 @@ pub record Stores (n m : ℕ) (wr wi xr xi w₀ h₀ w h : List Float) : Type 0 
 
 -- a served call of n forward and m feedback taps
 pub record Asked (s : EqualizeState) (w h xs ys : List Float) (ms : List ℕ) (n m : ℕ) : Type 0 where
-  pub shaped : Shaped (equalizer s w h) xs ys ms
+  pub shaped : ServedBlock (equalizer s w h) xs ys ms
   pub forth : n ≡ forward (equalizer s w h)
   pub back : m ≡ feedback (equalizer s w h)

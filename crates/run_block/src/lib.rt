@@ -7,7 +7,7 @@ ghost use Prim.Native.Nat.{_+_, _-_, _*_, _/_, _%_, _<_, _≤_};
 ghost use lib.ListN.{length};
 ghost use Rattle.tables.specs.Table.{cosBits};
 ghost use Rattle.definition.specs.Slices.{samplesOf};
-ghost use Rattle.definition.specs.Packed.{equalizer, Ran, Shaped};
+ghost use Rattle.definition.specs.Packed.{equalizer, Ran, ServedBlock};
 ghost use Rattle.definition.specs.Rules.{ruleR4};
 ghost use Rattle.definition.specs.Run.{runDef};
 ghost use Rattle.lanes.specs.Arrays.{arrays, Long};
@@ -40,7 +40,14 @@ fn prepare_run(
 }
 
 // The windows of the last sample to where the next run looks for them.
-fn finish_run(xr: &mut [f32; 288], xi: &mut [f32; 288], q: &mut [f32; 288], len: usize, n: usize, m: usize)
+fn finish_run(
+    xr: &mut [f32; 288],
+    xi: &mut [f32; 288],
+    q: &mut [f32; 288],
+    len: usize,
+    n: usize,
+    m: usize,
+)
     requires { ⌜ (length (now xr) ≡ 288) × ((length (now xi) ≡ 288) × (length (now q) ≡ 288)) ⌝ }
     requires { ⌜ (len ≤ 64) × ((n ≤ 63) × (m ≤ 63)) ⌝ }
     ensures { λ _. ⌜ Finished n m (64 - len) (now (xr .entry)) (now (xi .entry)) (now (q .entry))
@@ -327,7 +334,7 @@ pub fn equalize_linear(
     output: &mut [f32],
     marks: &mut [u8],
 ) -> EqualizeState
-    requires { ⌜ Shaped (equalizer state (now weights) (now window)) (now input) (now output) (now marks) ⌝ }
+    requires { ⌜ ServedBlock (equalizer state (now weights) (now window)) (now input) (now output) (now marks) ⌝ }
     ensures { λ r. ⌜ Ran (runDef (equalizer state (now (weights .entry)) (now (window .entry))) (samplesOf (now (input .entry))))
         (equalizer r (now (weights .exit)) (now (window .exit))) (now (output .exit)) (now (marks .exit)) ⌝ }
 {

@@ -10,7 +10,7 @@ use Rattle.types.specs.declared.EqualizeState.{EqualizeState}
 use Rattle.types.specs.Bits.{zero32}
 use Rattle.definition.specs.Floats.{complex}
 use Rattle.definition.specs.Slices.{reAt, imAt, power, samplesOf}
-use Rattle.definition.specs.Packed.{equalizer, Shaped, Ran}
+use Rattle.definition.specs.Packed.{equalizer, ServedBlock, Ran}
 use Rattle.definition.specs.Sample.{Equalizer, forward, feedback}
 use Rattle.definition.specs.Rules.{acceptedDef, ruleR4}
 use Rattle.definition.specs.Run.{runDef}

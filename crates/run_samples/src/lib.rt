@@ -31,7 +31,9 @@ pub struct Shape {
 // The arrays of a call, all zero: lanes of weights, places of a window, and one number for each sample of a run.
 impl Shape {
     pub const WEIGHTS: [f32; 144] = [0.0; 144];
+
     pub const HISTORY: [f32; 288] = [0.0; 288];
+
     pub const STEPS: [f32; 64] = [0.0; 64];
 }
 

@@ -11,14 +11,14 @@ known-settings-requires c κs = search needs
 no-record-requires : tie.Need-no-record-requires
 no-record-requires c κs = search needs
 
-evens-requires : tie.Need-evens-requires
-evens-requires c κs = search needs
+both-even-requires : tie.Need-both-even-requires
+both-even-requires c κs = search needs
 
 unknown-requires : tie.Need-unknown-requires
 unknown-requires c κs = search needs
 
 returns : tie.Need-returns
-returns c = new-unknown _ _ _ _ _ (c .before .before .before .before .known-settings .ensures) _ _ (search not-true) (c .before .before .no-record .ensures) (c .before .evens .ensures) (c .unknown .ensures)
+returns c = new-unknown _ _ _ _ _ (c .before .before .before .before .known-settings .ensures) _ _ (search not-true) (c .before .before .no-record .ensures) (c .before .both-even .ensures) (c .unknown .ensures)
 
 settings-in-requires : tie.Need-settings-in-requires
 settings-in-requires c κs = search needs
@@ -44,7 +44,7 @@ eq-new-spec =
     (tie.spec
     known-settings-requires
     no-record-requires
-    evens-requires
+    both-even-requires
     unknown-requires
     returns
     settings-in-requires

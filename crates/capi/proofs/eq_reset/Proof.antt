@@ -8,8 +8,8 @@ use Rattle.capi.proofs.eq_reset.Tie as tie
 known-record-requires : tie.Need-known-record-requires
 known-record-requires c κs = search needs
 
-evens-requires : tie.Need-evens-requires
-evens-requires c κs = search needs
+both-even-requires : tie.Need-both-even-requires
+both-even-requires c κs = search needs
 
 unknown-requires : tie.Need-unknown-requires
 unknown-requires c κs = search needs
@@ -40,7 +40,7 @@ eq-reset-spec =
     tie.close
     (tie.spec
     known-record-requires
-    evens-requires
+    both-even-requires
     unknown-requires
     returns
     record-in-requires
