@@ -36,7 +36,7 @@ fn equalize_paths(
     if by_runs(weights.len() / 2, marks.len()) {
         run_block::equalize_linear(state, weights, window, input, output, marks)
     } else {
-        plain::run(state, weights, window, input, output, marks)
+        plain::block(state, weights, window, input, output, marks)
     }
 }
 

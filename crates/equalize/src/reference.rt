@@ -29,7 +29,7 @@ pub fn equalize(
     match v {
         Outcome::Refused(_) => Equalized { state, outcome: v },
         Outcome::Served => {
-            let next = plain::run(state, weights, window, input, output, marks);
+            let next = plain::block(state, weights, window, input, output, marks);
             Equalized {
                 state: next,
                 outcome: v,

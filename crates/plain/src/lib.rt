@@ -107,7 +107,7 @@ fn sample(s: EqualizeState, w: &mut [f32], h: &mut [f32], x: C32) -> Sampled
 }
 
 // A block of samples.
-pub fn run(
+pub fn block(
     state: EqualizeState,
     weights: &mut [f32],
     window: &mut [f32],

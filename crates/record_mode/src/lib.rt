@@ -1,5 +1,6 @@
 // The switch from Cma to Decision.
 use types::EqMode;
+use types::EqParams;
 use types::EqualizeState;
 ghost use mathlib.Core.Path.{_≡_};
 ghost use mathlib.Core.Bool.{true};
@@ -17,7 +18,7 @@ pub fn advance(s: EqualizeState) -> EqualizeState
     match mode {
         EqMode::Decision => s,
         EqMode::Cma => {
-            if total == 4294967295 {
+            if total == EqParams::NEVER_SWITCH {
                 return s;
             }
             let count = s.count + 1;

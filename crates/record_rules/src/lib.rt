@@ -1,5 +1,6 @@
 // The record check: rules R1 to R4.
 use types::EqMode;
+use types::EqParams;
 use types::EqualizeState;
 ghost use mathlib.Core.Path.{_≡_};
 ghost use Prim.Native.Nat.{_-_};
@@ -77,7 +78,7 @@ fn plus_zero(v: f32) -> bool
 fn weight_fits(v: f32) -> bool
     ensures { λ r. ⌜ r ≡ weightFits v ⌝ }
 {
-    plus_zero(v) | (numeric::is_finite(v) & (magnitude(v) >= 1e-30))
+    plus_zero(v) | (numeric::is_finite(v) & (magnitude(v) >= numeric::TINY))
 }
 
 // +0, or 1e-30 to 0.125 in magnitude.
@@ -85,7 +86,7 @@ fn freq_fits(v: f32) -> bool
     ensures { λ r. ⌜ r ≡ freqFits v ⌝ }
 {
     let a = magnitude(v);
-    plus_zero(v) | ((a >= 1e-30) & (a <= 0.125))
+    plus_zero(v) | ((a >= numeric::TINY) & (a <= EqualizeState::PHASE_MAX_FREQ))
 }
 
 // n - m, or 0 where there are fewer.
@@ -161,12 +162,12 @@ fn rule_r4(s: EqualizeState) -> bool
     let n = s.count;
     match mode {
         EqMode::Cma => {
-            if total == 4294967295 {
+            if total == EqParams::NEVER_SWITCH {
                 return n == 0;
             }
             n < total
         }
-        EqMode::Decision => !(total == 4294967295) & (n == total),
+        EqMode::Decision => !(total == EqParams::NEVER_SWITCH) & (n == total),
     }
 }
 

@@ -9,8 +9,8 @@ by-runs-requires c κs = search needs
 equalize-linear-requires : tie.Need-equalize-linear-requires
 equalize-linear-requires c κs = search needs
 
-run-requires : tie.Need-run-requires
-run-requires c κs = search needs
+block-requires : tie.Need-run-requires
+block-requires c κs = search needs
 
 same-length : tie.Need-same-length
 same-length c = search needs
@@ -48,7 +48,7 @@ equalize-paths-spec =
     (tie.spec
     by-runs-requires
     equalize-linear-requires
-    run-requires
+    block-requires
     same-length
     same-length-2
     same-length-3

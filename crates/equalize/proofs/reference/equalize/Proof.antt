@@ -13,8 +13,8 @@ enum-told c = search needs
 enum-told-2 : tie.Need-enum-told-2
 enum-told-2 c = search needs
 
-run-requires : tie.Need-run-requires
-run-requires c κs = call-shaped _ _ _ _ _ _ _ (c .before .before .before .before .before .before .verdict .ensures) (c .before .before .before .before .enum-told2 .given .1)
+block-requires : tie.Need-run-requires
+block-requires c κs = call-shaped _ _ _ _ _ _ _ (c .before .before .before .before .before .before .verdict .ensures) (c .before .before .before .before .enum-told2 .given .1)
 
 same-length : tie.Need-same-length
 same-length c = search needs
@@ -38,7 +38,7 @@ same-length-6 : tie.Need-same-length-6
 same-length-6 c = search needs
 
 returns-2 : tie.Need-returns-2
-returns-2 c = call-served _ _ _ _ _ _ _ (c .before .before .before .before .before .before .before .before .before .before .before .before .before .before .before .verdict .ensures) (c .before .before .before .before .before .before .before .before .before .before .before .before .before .enum-told2 .given .1) _ _ _ _ _ (c .before .before .before .before .before .before .before .before .run .ensures)
+returns-2 c = call-served _ _ _ _ _ _ _ (c .before .before .before .before .before .before .before .before .before .before .before .before .before .before .before .verdict .ensures) (c .before .before .before .before .before .before .before .before .before .before .before .before .before .enum-told2 .given .1) _ _ _ _ _ (c .before .before .before .before .before .before .before .before .block .ensures)
 
 pub equalize-spec : {M : Type 1} → statement M
 equalize-spec =
@@ -47,7 +47,7 @@ equalize-spec =
     verdict-requires
     enum-told
     enum-told-2
-    run-requires
+    block-requires
     same-length
     same-length-2
     returns

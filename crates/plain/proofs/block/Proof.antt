@@ -4,8 +4,8 @@ use native.Mathlib.Omega.{arith}
 use lib.ListN.{length, length-set}
 use Rattle.definition.specs.Packed.{equalizer}
 use Rattle.plain.proofs.BlockLoop.{Turns, turns-none, turns-more, turns-all}
-use Rattle.plain.proofs.run.Statement.{statement}
-use Rattle.plain.proofs.run.Tie as tie
+use Rattle.plain.proofs.block.Statement.{statement}
+use Rattle.plain.proofs.block.Tie as tie
 
 abbrev Inv-loop : tie.InvT-loop
 Inv-loop weights₀ window₀ input output₀ marks₀ s₀ i₀ k₀ weights window output marks s i k =
@@ -94,8 +94,8 @@ same-length-4 c = search needs
 returns : tie.Need-returns Inv-loop μ-loop
 returns c = search turns-all
 
-pub run-spec : {M : Type 1} → statement M
-run-spec =
+pub block-spec : {M : Type 1} → statement M
+block-spec =
     tie.close
     (tie.spec
     Inv-loop
