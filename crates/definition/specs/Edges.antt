@@ -1,24 +1,21 @@
 -- The leaves at their edges, as one table: limits and their neighbours, NaN, infinities, -0, ties, octant borders, gains at -0, flush at 1e-30.
 -- A row gives the arguments by their bits and then the result; 7fc00000 is a NaN.
-use Prim.Native.Nat.{ℕ, _+_, _*_}
+use Prim.Native.Nat.{ℕ}
 use mathlib.Core.Bool.{Bool, true, false, _&&_}
 use mathlib.Core.List.{List, [], _∷_}
 use lib.ListN.{replicate, getD}
 use lib.Dec.{eqb}
-use lib.Ieee.{Float, nan, inf, binary32, binary64, toBits}
+use lib.Ieee.{Float, nan, inf, binary32, toBits}
 use lib.Ieee.Scale.{finite}
 use Rattle.types.specs.declared.C32.{C32}
-use Rattle.types.specs.declared.CosSin.{CosSin}
 use Rattle.types.specs.declared.EqMode.the-variants.{Cma, Decision}
-use Rattle.types.specs.declared.EqConstellation.{EqConstellation}
 use Rattle.types.specs.declared.EqConstellation.the-variants.{Bpsk, Qpsk, Psk8, Qam16, Qam64}
-use Rattle.types.specs.declared.Qam.{Qam}
 use Rattle.types.specs.declared.Qam.the-variants as qam
 use Rattle.types.specs.declared.Update.{Update}
 use Rattle.types.specs.declared.Update.the-variants.{Step, Hold}
 use Rattle.types.specs.Bits.{f32, f64}
-use Rattle.definition.specs.Floats.{flush, clip, narrow, complex, finiteC}
-use Rattle.definition.specs.Slices.{sum8, shifted, dotComplex, power, startWeights}
+use Rattle.definition.specs.Floats.{flush, clip, narrow, complex}
+use Rattle.definition.specs.Slices.{sum8, shifted, dotComplex, power}
 use Rattle.definition.specs.Gains.{phaseDamping, gainKp, gainKi}
 use Rattle.definition.specs.Phase.{cosSin, interpPair, phaseStep}
 use Rattle.definition.specs.Points.{octant, levelOf, decide}

@@ -2,16 +2,12 @@
 use Prim.Native.Nat.{ℕ, _+_, _*_}
 use mathlib.Core.Bool.{Bool, true, false, _&&_}
 use mathlib.Core.List.{List, [], _∷_}
-use lib.ListN.{length}
 use lib.Dec.{eqb}
-use lib.Ieee.{Float, nan, inf, binary32, binary64, round, neg}
+use lib.Ieee.{Float, nan, binary32, binary64, round, neg}
 use Rattle.types.specs.declared.C32.{C32}
 use Rattle.types.specs.declared.Qam.the-variants as qam
-use Rattle.types.specs.declared.EqMode.{EqMode}
-use Rattle.types.specs.declared.EqMode.the-variants.{Cma, Decision}
 use Rattle.types.specs.declared.EqConstellation.{EqConstellation}
 use Rattle.types.specs.declared.EqConstellation.the-variants.{Bpsk, Qpsk, Psk8, Qam16, Qam64}
-use Rattle.types.specs.declared.EqualizeState.{EqualizeState}
 use Rattle.types.specs.declared.Fresh.{Fresh}
 use Rattle.types.specs.declared.Fresh.the-variants.{Made, NotMade}
 use Rattle.types.specs.Bits.{f32, zero32, one32}
@@ -19,7 +15,6 @@ use Rattle.definition.specs.Floats.{narrow, complex}
 use Rattle.definition.specs.Slices.{zeros}
 use Rattle.definition.specs.Phase.{phaseStep}
 use Rattle.definition.specs.Points.{A, C8, S8, levelOf, decide, radius}
-use Rattle.definition.specs.Sample.{Equalizer}
 use Rattle.definition.specs.Rules.{sameBits}
 use Rattle.definition.specs.Calls.{Answer, NewAnswer, newDef, equalizeDef}
 use Rattle.types.specs.Numbers.{modeNumber}

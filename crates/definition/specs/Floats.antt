@@ -3,7 +3,7 @@
 -- they have the same bits, any two NaNs counting as equal. So a promise that gives a float back gives it back by its bits, but for the sign and
 -- payload of a NaN, which no promise speaks of: an `mse` that came as a NaN, and what a refused call leaves of NaNs in a record or a slice.
 use Prim.Native.Nat.{_*_}
-use mathlib.Core.Bool.{Bool, true, false, cond, _&&_}
+use mathlib.Core.Bool.{Bool, false, cond, _&&_}
 use lib.Ieee.{Float, nan, inf, fin, binary32, binary64, add, sub, mul, div, neg, lt, up, down, round}
 use lib.Ieee.Scale.{finite}
 use Rattle.types.specs.declared.C32.{C32}

@@ -1,6 +1,6 @@
 -- The constellations: decisions, and Godard's R2.
 use Prim.Native.Nat.{ℕ, _+_, _-_, _*_, _/_, min}
-use mathlib.Core.Bool.{Bool, true, false, cond, _&&_}
+use mathlib.Core.Bool.{false, cond, _&&_}
 use mathlib.Core.List.{List, [], _∷_, _++_, map}
 use lib.ListN.{length, getD}
 use lib.Ieee.{Float, nan, inf, fin, binary64, neg, lt, le, up, down, round}

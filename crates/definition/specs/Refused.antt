@@ -1,10 +1,9 @@
 -- The refusals, as one table: every number from every operation that tests it, what it returns, and that all slices and the record are as they
 -- came; two causes at once for each order; and what the operations leave where they serve.
 use Prim.Native.Nat.{ℕ, _+_, _*_}
-use mathlib.Core.Bool.{Bool, true, false, cond, _&&_, _||_}
+use mathlib.Core.Bool.{Bool, true, false, _&&_}
 use mathlib.Core.List.{List, [], _∷_, _++_}
 use lib.ListN.{replicate, set}
-use lib.Dec.{eqb}
 use lib.Ieee.{Float, nan, inf}
 use Rattle.types.specs.declared.EqMode.{EqMode}
 use Rattle.types.specs.declared.EqMode.the-variants.{Cma, Decision}
@@ -12,10 +11,9 @@ use Rattle.types.specs.declared.EqParams.{EqParams}
 use Rattle.types.specs.declared.EqualizeState.{EqualizeState}
 use Rattle.types.specs.declared.Fresh.{Fresh}
 use Rattle.types.specs.declared.Fresh.the-variants.{Made, NotMade}
-use Rattle.types.specs.declared.EqConstellation.the-variants.{Qpsk}
-use Rattle.types.specs.Bits.{f32, f64, zero32, one32}
+use Rattle.types.specs.Bits.{f32, zero32, one32}
 use Rattle.definition.specs.Sample.{Equalizer, withRunning}
-use Rattle.definition.specs.Calls.{NewAnswer, newDef, ResetAnswer, resetDef, SetAnswer, setMuCmaDef, setMuDdDef, setFrequencyDef, Answer, equalizeDef}
+use Rattle.definition.specs.Calls.{newDef, resetDef, SetAnswer, setMuCmaDef, setMuDdDef, setFrequencyDef, equalizeDef}
 use Rattle.definition.specs.Rows.{same, bitsOf, stateBits, sameEqualizer, settings, settingsWith, stateOf}
 
 -- ---- the operations, compared whole

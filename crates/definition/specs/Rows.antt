@@ -1,10 +1,9 @@
 -- What the tables of rows compare: everything by whole numbers, floats by their bits.
 use Prim.Native.Nat.{ℕ}
 use mathlib.Core.Bool.{Bool, true, false, _&&_}
-use mathlib.Core.List.{List, [], _∷_, _++_, map}
+use mathlib.Core.List.{List, [], _∷_, map}
 use lib.Dec.{eqb}
 use lib.Ieee.{Float, binary32, binary64, toBits}
-use Rattle.types.specs.declared.C32.{C32}
 use Rattle.types.specs.declared.EqMode.{EqMode}
 use Rattle.types.specs.declared.EqConstellation.{EqConstellation}
 use Rattle.types.specs.declared.EqConstellation.the-variants.{Qpsk}

@@ -1,15 +1,13 @@
 -- The record rules R1 to R4.
 use Prim.Native.Nat.{ℕ, _+_, _*_, _≤_, _%_}
 use mathlib.Core.Path.{_≡_}
-use mathlib.Core.Bool.{Bool, true, false, cond, not, _&&_, _||_}
-use mathlib.Core.List.{List}
+use mathlib.Core.Bool.{Bool, cond, not, _&&_, _||_}
 use lib.ListN.{length}
 use lib.Dec.{eqb, leb, ltb}
 use lib.Ieee.{Float, binary32, toBits, eq, le}
 use lib.Ieee.Scale.{finite}
 use Rattle.types.specs.declared.EqMode.{EqMode}
 use Rattle.types.specs.declared.EqMode.the-variants.{Cma, Decision}
-use Rattle.types.specs.declared.EqParams.{EqParams}
 use Rattle.types.specs.declared.EqualizeState.{EqualizeState}
 use Rattle.types.specs.Bits.{f64, one32}
 use Rattle.definition.specs.Floats.{tiny, maxFreq, muMin, bwMin, bwMax, abs}

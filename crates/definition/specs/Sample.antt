@@ -1,7 +1,7 @@
 -- ONE SAMPLE, steps 1 to 8 of document 01. Throughout: s is the record, w the weights, h the window, n the number of all taps, f of the forward
 -- taps, m of the feedback taps.
 use Prim.Native.Nat.{ℕ, _+_, _-_, _*_, _/_, _%_, _^_}
-use mathlib.Core.Bool.{Bool, true, false, cond, not, _&&_}
+use mathlib.Core.Bool.{Bool, cond, not, _&&_}
 use mathlib.Core.List.{List, _++_}
 use lib.ListN.{take, drop}
 use lib.Dec.{eqb, ltb}

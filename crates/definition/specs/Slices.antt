@@ -1,6 +1,6 @@
 -- A slice of complex numbers is a list of f32: number i has its real part at 2 i and its imaginary part at 2 i + 1.
 use Prim.Native.Nat.{ℕ, zero, suc, _+_, _-_, _*_, _/_, _%_, min}
-use mathlib.Core.Bool.{Bool, true, false, cond, _&&_}
+use mathlib.Core.Bool.{Bool, true, cond, _&&_}
 use mathlib.Core.List.{List, [], _∷_, _++_}
 use lib.ListN.{length, getD, take, drop, set, replicate}
 use lib.Dec.{eqb}

@@ -1,25 +1,21 @@
 -- The record rules as a record of facts, and what a sample leaves alone. Assumes nothing.
-use Prim.Native.Nat.{ℕ, zero, suc, _+_, _-_, _*_, _/_, _%_, _<_, _≤_}
+use Prim.Native.Nat.{_-_, _%_, _≤_}
 use mathlib.Core.Path.{_≡_, refl, sym, _∙_, ap, subst}
-use mathlib.Core.Bool.{Bool, true, false, not, cond, _&&_, _||_}
-use mathlib.Core.List.{List}
+use mathlib.Core.Bool.{_&&_}
 use native.Mathlib.Omega.{arith}
 use lib.ListN.{length}
-use lib.Dec.{T, leb, eqb, ltb, leb→le, eqb→eq}
+use lib.Dec.{T, leb, eqb, leb→le, eqb→eq}
 use lib.Ieee.{Float, nan, inf, fin, binary32, fits, toBits}
 use lib.Ieee.Fits.{and-i, and-l, and-r, round-fits, nan-fits, inf-fits}
 use lib.Ieee.Bits.{ofBits-toBits}
-use lib.Ieee.{ofBits, up, down}
+use lib.Ieee.{ofBits, down}
 use lib.Ieee.Scale.{finite}
-use Rattle.types.specs.declared.EqMode.{EqMode}
-use Rattle.types.specs.declared.EqMode.the-variants.{Cma, Decision}
-use Rattle.types.specs.declared.EqParams.{EqParams}
 use Rattle.types.specs.declared.EqualizeState.{EqualizeState}
 use Rattle.definition.specs.Floats.{narrow}
 use Rattle.definition.specs.Slices.{complexLength, whole, every}
 use Rattle.definition.specs.Gains.{phaseDamping, gainKp, gainKi}
-use Rattle.definition.specs.Sample.{Equalizer, allTaps, feedback, forward}
-use Rattle.definition.specs.Rules.{sameBits, tapsFit, muFits, bwFits, weightFits, freqFits, ruleR1, ruleR2, ruleR3, countFits, ruleR4, rules, acceptedDef, TapCounts, feedbackFits}
+use Rattle.definition.specs.Sample.{Equalizer, feedback, forward}
+use Rattle.definition.specs.Rules.{sameBits, tapsFit, muFits, bwFits, weightFits, freqFits, ruleR1, ruleR2, ruleR3, ruleR4, rules, acceptedDef, TapCounts, feedbackFits}
 use Rattle.definition_laws.proofs.Gains.{ki-finite}
 
 pub record Accepted (q : Equalizer) : Type 0 where

@@ -1,19 +1,18 @@
 -- Each point is at most 2 in each part, cosine and sine are at most 4 in size, so what is fed back is finite. Assumes nothing.
-use Prim.Native.Nat.{ℕ, zero, suc, _+_, _*_, _/_, _%_, _^_, _<_, _≤_, min}
-use mathlib.Core.Path.{_≡_, refl, sym, ap, subst}
-use mathlib.Core.Logic.{_⊎_, inl, inr}
-use mathlib.Core.Bool.{Bool, true, false, cond, _&&_}
+use Prim.Native.Nat.{ℕ, zero, suc, _+_, _*_, _/_, _%_, _^_, _<_, _≤_}
+use mathlib.Core.Path.{_≡_, refl, sym, subst}
+use mathlib.Core.Logic.{inl, inr}
+use mathlib.Core.Bool.{Bool, true, false, cond}
 use mathlib.Core.List.{List, [], _∷_}
-use native.Mathlib.Nat.{le-trans, le-refl, mul-le-mul-right, zero-lt-suc, min-le-left, lt-of-le-of-lt}
+use native.Mathlib.Nat.{le-refl, mul-le-mul-right, zero-lt-suc, min-le-left}
 use native.Mathlib.Omega.{arith}
-use lib.IntN.{ℤ, pos, negsuc}
+use lib.IntN.{pos}
 use lib.Count.{trailingZeros}
 use lib.ListN.{length, getD, List·getD-eq-default}
-use lib.Dec.{T, leb, eqb, leb→le, lit≤, lit<}
-use lib.Ieee.{Float, nan, inf, fin, binary32, up, down, low, ofBits, ofFields, odd, neg, lt, le, ofInt, round, add, sub, mul}
-use lib.Ieee.Fits.{and-i}
+use lib.Dec.{T, leb, eqb, leb→le, lit≤}
+use lib.Ieee.{Float, nan, inf, fin, binary32, up, down, ofBits, ofFields, odd, neg, lt, le, ofInt}
 use lib.Ieee.Scale.{finite}
-use Rattle.laws.specs.Bound.{AtMost, Within, round-at-most, mul-at-most, within-add, within-sub, within-mul, within-mono, within-neg, power-held, at-most-finite, at-most-mono, le-or-lt}
+use Rattle.laws.specs.Bound.{AtMost, Within, round-at-most, mul-at-most, within-add, within-sub, within-mul, within-mono, within-neg, power-held, at-most-finite, le-or-lt}
 use Rattle.tables.specs.Table.{cosAt, cosBits}
 use Rattle.tables.proofs.Rules.{at-most-one}
 use Rattle.types.specs.declared.C32.{C32}
@@ -23,7 +22,7 @@ use Rattle.types.specs.declared.Qam.the-variants as qam
 use Rattle.types.specs.declared.EqConstellation.{EqConstellation}
 use Rattle.types.specs.declared.EqConstellation.the-variants.{Bpsk, Qpsk, Psk8, Qam16, Qam64}
 use Rattle.types.specs.Bits.{f32, zero32, one32}
-use Rattle.definition.specs.Floats.{_+f_, _-f_, _*f_, abs, complex, zeroC}
+use Rattle.definition.specs.Floats.{_+f_, _-f_, _*f_, complex, zeroC}
 use Rattle.definition.specs.Slices.{every}
 use Rattle.definition.specs.Phase.{lowPart, lineAt, interpPair, cosSin}
 use Rattle.definition.specs.Points.{A, C8, S8, side, points8, octant, octantPoint, levels, heldTo, levelOf, levelAt, qamPoint, decide}

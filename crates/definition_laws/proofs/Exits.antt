@@ -8,7 +8,7 @@ use Rattle.types.specs.declared.C32.{C32}
 use Rattle.types.specs.declared.EqualizeState.{EqualizeState}
 use Rattle.types.specs.declared.Mark.the-variants.{Heard, Blank, Spilled}
 use Rattle.definition.specs.Floats.{finiteC}
-use Rattle.definition.specs.Sample.{Stage, step3, hear, heardAs, passedBy}
+use Rattle.definition.specs.Sample.{step3, hear, heardAs, passedBy}
 
 module _ (s : EqualizeState) (w : List Float) (n f : ℕ) (x : C32) (h : List Float) (y : C32) where
   pub stage-blank : finiteC x ≡ false → step3 s w n f x h y ≡ passedBy s w Blank

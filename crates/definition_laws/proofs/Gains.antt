@@ -2,21 +2,21 @@
 use Prim.Native.Nat.{ℕ, zero, suc, _+_, _-_, _*_, _^_, _<_, _≤_}
 use mathlib.Core.Path.{_≡_, refl, sym, _∙_, ap, subst}
 use mathlib.Core.Logic.{_⊎_, inl, inr}
-use mathlib.Core.Bool.{Bool, true, false, not, cond, _&&_, _||_, Bool·beq}
-use native.Mathlib.Nat.{le-trans, le-of-eq, le-of-lt, le-refl, lt-of-lt-of-le, mul-one, one-mul, zero-mul, mul-comm, mul-assoc, mul-left-comm, mul-right-comm, mul-le-mul, mul-le-mul-left, mul-le-mul-right, le-of-mul-le-mul-right, mul-pos, zero-lt-suc, lt-irrefl}
+use mathlib.Core.Bool.{Bool, true, false, not, cond, _&&_, _||_}
+use native.Mathlib.Nat.{le-trans, le-of-eq, le-of-lt, lt-of-lt-of-le, mul-one, one-mul, zero-mul, mul-comm, mul-assoc, mul-right-comm, mul-le-mul, mul-le-mul-right, le-of-mul-le-mul-right, mul-pos, zero-lt-suc, lt-irrefl}
 use native.Mathlib.Omega.{arith}
-use lib.IntN.{ℤ, pos, negsuc}
+use lib.IntN.{ℤ, pos}
 use lib.Count.{trailingZeros}
-use lib.Dec.{T, ltb, leb, eqb, ltb→lt, eqb→eq, lit≤}
-use lib.Pow.{pow-pos, pow-add}
+use lib.Dec.{T, ltb, eqb, ltb→lt, eqb→eq, lit≤}
+use lib.Pow.{pow-pos}
 use borrow.Author.Tests.{ne-eqb, le-ltb}
-use lib.Ieee.{Float, nan, inf, fin, Format, binary32, binary64, prec, emax, low, up, down, unlike, ofBits, ofFields, odd, size, span, climb, units, round, neg, sum, add, mul, div, lt, le, eq}
+use lib.Ieee.{Float, nan, inf, fin, Format, binary32, binary64, prec, emax, low, up, down, unlike, ofBits, ofFields, odd, size, span, climb, units, round, sum, add, mul, div, lt, le, eq}
 use lib.Ieee.Fits.{up-pos, down-pos, and-l, and-r}
 use lib.Ieee.Order.{round-mono}
 use lib.Ieee.Scale.{finite}
 use lib.Ieee.Positive.{num, den, positive, between, le→cross}
 use Rattle.laws.specs.Exact.{round-zero}
-use Rattle.laws.specs.Bound.{AtMost, Within, Held, round-at-most, add-at-most, within-add, within-mul, within-mono, power-held, at-most-finite, between-at-most}
+use Rattle.laws.specs.Bound.{AtMost, Within, Held, round-at-most, within-add, within-mul, within-mono, power-held, at-most-finite}
 use Rattle.types.specs.Bits.{f64}
 use Rattle.definition.specs.Floats.{_+d_, _*d_, _/d_, bwMin, bwMax, narrow}
 use Rattle.definition.specs.Gains.{phaseDamping, tau, one64, two64, four64, theta, divisor, gainKi}

@@ -1,14 +1,14 @@
 -- A sample, and a block of samples, leave an accepted equalizer accepted. Assumes nothing.
-use Prim.Native.Nat.{ℕ, zero, suc, _+_, _-_, _*_, _/_, _%_, _^_, _<_, _≤_}
+use Prim.Native.Nat.{ℕ, _+_, _-_, _*_, _/_, _%_, _<_}
 use mathlib.Core.Path.{_≡_, refl, sym, _∙_, ap, subst}
-use mathlib.Core.Bool.{Bool, true, false, not, cond, _&&_, _||_}
-use mathlib.Core.List.{List, [], _∷_, _++_}
+use mathlib.Core.Bool.{Bool, true, false, cond}
+use mathlib.Core.List.{List, [], _∷_}
 use native.Mathlib.Omega.{arith}
 use lib.ListN.{length, take, drop, length-append, length-take, length-drop}
-use lib.Dec.{T, leb, eqb, ltb, ltb→lt, eqb→eq}
-use lib.Ieee.{Float, nan, inf, fin, binary32, ofBits, ofFields, odd, toBits, size, span, climb, le, lt, eq}
+use lib.Dec.{T, eqb, ltb, ltb→lt}
+use lib.Ieee.{Float, binary32, ofBits, ofFields, odd, toBits, size, span, climb, le, lt, eq}
 use lib.Count.{trailingZeros}
-use lib.Ieee.Fits.{and-i, and-l, and-r, eq→eqb}
+use lib.Ieee.Fits.{and-l, and-r, eq→eqb}
 use lib.Ieee.Scale.{finite}
 use borrow.Author.Tests.{lt-ltb}
 use Rattle.types.specs.declared.C32.{C32}
@@ -19,20 +19,20 @@ use Rattle.types.specs.declared.EqualizeState.{EqualizeState}
 use Rattle.types.specs.declared.Update.{Update}
 use Rattle.types.specs.declared.Update.the-variants.{Step, Hold}
 use Rattle.types.specs.Bits.{zero32, one32}
-use Rattle.definition.specs.Floats.{_+f_, _-f_, _*f_, flush, clip, maxFreq, complex, zeroC, finiteC}
-use Rattle.definition.specs.Slices.{complexLength, whole, every, shifted, zeros, part, newRe, newIm, tabulate, updated, startWeights}
+use Rattle.definition.specs.Floats.{_+f_, _-f_, _*f_, complex, zeroC, finiteC}
+use Rattle.definition.specs.Slices.{every, shifted, zeros, part, newRe, newIm, tabulate, updated, startWeights}
 use Rattle.definition.specs.Phase.{cosSin}
 use Rattle.definition.specs.Points.{decide}
 use Rattle.definition.specs.Turns.{derotated, rotated}
 use Rattle.types.specs.declared.Mark.{Mark}
 use Rattle.types.specs.declared.Mark.the-variants.{Blank, Spilled}
-use Rattle.definition.specs.Sample.{Equalizer, Did, Out, Stage, Letters, allTaps, feedback, forward, neverSwitch, sanitized, step1, step2, fedOf, resetUnless, adapted, updateOf, live, phaseError, freqAfter, tracked, hear, heardAs, passedBy, step3, fedIn, withMode, advanceIn, advance, step8, sampleDef}
-use Rattle.definition.specs.Rules.{plusZero, weightFits, freqFits, ruleR1, ruleR2, countFits, ruleR4, acceptedDef, TapCounts}
-use Rattle.definition.specs.Run.{Run, runDef}
+use Rattle.definition.specs.Sample.{Equalizer, Stage, allTaps, feedback, forward, neverSwitch, sanitized, step1, step2, fedOf, resetUnless, adapted, live, phaseError, freqAfter, tracked, hear, heardAs, passedBy, step3, fedIn, withMode, advanceIn, advance, step8, sampleDef}
+use Rattle.definition.specs.Rules.{plusZero, weightFits, freqFits, countFits, ruleR4, TapCounts}
+use Rattle.definition.specs.Run.{runDef}
 use Rattle.definition_laws.proofs.Every.{every-append, every-left, every-take, every-drop, every-set, every-replicate, every-shifted, every-tabulate, length-shifted, length-updated, length-start}
-use Rattle.definition_laws.proofs.Parts.{zero-fits, flush-fits, freq-fits, freq-finite, finite-zero, mul-number, add-number, is-true}
+use Rattle.definition_laws.proofs.Parts.{zero-fits, flush-fits, freq-fits, freq-finite, finite-zero, mul-number, add-number}
 use Rattle.definition_laws.proofs.Bounds.{decide-small, cos-within, rotated-finite}
-use Rattle.definition_laws.proofs.Accept.{Accepted, accepted-parts, accepted-whole, shape, own-ki, Alike, alike-refl, alike-trans, alike-r1, alike-r2}
+use Rattle.definition_laws.proofs.Accept.{Accepted, shape, own-ki, Alike, alike-refl, alike-trans, alike-r1, alike-r2}
 
 -- ---- step 8: count and mode
 

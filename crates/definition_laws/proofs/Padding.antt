@@ -1,20 +1,20 @@
 -- Padding: products that are zeros, of either sign, may be left out of the end of a sum, and weights +0 make such products of a finite window. Assumes nothing.
-use Prim.Native.Nat.{ℕ, zero, suc, _+_, _-_, _*_, _/_, _<_, _≤_}
-use mathlib.Core.Path.{_≡_, refl, sym, _∙_, ap, subst}
-use mathlib.Core.Bool.{Bool, true, false, not}
+use Prim.Native.Nat.{ℕ, zero, suc, _+_, _-_, _*_, _<_, _≤_}
+use mathlib.Core.Path.{_≡_, refl, sym, _∙_, ap}
+use mathlib.Core.Bool.{Bool, true, false}
 use mathlib.Core.List.{List}
 use native.Mathlib.Omega.{arith}
 use native.Mathlib.Nat.{add-zero, add-suc}
 use lib.IntN.{pos}
 use lib.Dec.{T}
-use lib.Ieee.{Float, nan, inf, fin, binary32, fits, unlike, ofBits, ofFields, odd, size, span, climb, round, units, sum, neg, add, sub, mul}
+use lib.Ieee.{Float, nan, inf, fin, binary32, fits, unlike, ofBits, ofFields, odd, size, span, climb, round, units, sum, neg, add, sub}
 use lib.Ieee.Fits.{add-fits}
 use lib.Ieee.Bits.{ofBits-fits}
 use lib.Ieee.Scale.{finite}
 use Rattle.laws.specs.Zero.{notNegZero, add-any-zero, add-not-neg, mul-zero-right}
 use Rattle.types.specs.Bits.{zero32}
 use Rattle.definition.specs.Floats.{_+f_, _-f_, _*f_}
-use Rattle.definition.specs.Slices.{reAt, imAt, prodRe, prodIm, lane, laneCount, tree, sum8}
+use Rattle.definition.specs.Slices.{reAt, imAt, prodRe, prodIm, lane, laneCount, sum8}
 
 -- a zero of either sign
 pub record Zero (x : Float) : Type 0 where

@@ -1,16 +1,16 @@
 -- What flush and clip leave, and where a sum or a product is no NaN. Assumes nothing.
-use Prim.Native.Nat.{ℕ, _+_, _*_, _^_, _≤_, _<_}
-use mathlib.Core.Path.{_≡_, refl, sym, _∙_, ap, subst}
-use mathlib.Core.Bool.{Bool, true, false, not, cond, _&&_, _||_, Bool·beq}
-use lib.IntN.{ℤ, pos, negsuc}
+use Prim.Native.Nat.{ℕ, _+_, _*_, _^_}
+use mathlib.Core.Path.{_≡_, refl, subst}
+use mathlib.Core.Bool.{Bool, true, false, cond, _&&_, _||_, Bool·beq}
+use lib.IntN.{negsuc}
 use lib.Count.{trailingZeros}
-use lib.Dec.{T, ltb, eqb, leb}
-use lib.Ieee.{Float, nan, inf, fin, Format, binary32, prec, emax, low, up, down, unlike, ofBits, ofFields, odd, toBits, size, span, climb, units, round, neg, sum, add, mul, lt, le, eq}
-use lib.Ieee.Fits.{and-i, and-l, and-r}
+use lib.Dec.{T, ltb}
+use lib.Ieee.{Float, nan, inf, fin, Format, prec, emax, low, up, down, unlike, ofBits, ofFields, odd, toBits, size, span, climb, units, round, neg, sum, add, mul, lt, le, eq}
+use lib.Ieee.Fits.{and-i, and-r}
 use lib.Ieee.Scale.{finite}
-use Rattle.laws.specs.Order.{number, le-of-not-lt, le-itself}
-use Rattle.types.specs.Bits.{f32, zero32}
-use Rattle.definition.specs.Floats.{_+f_, _*f_, tiny, maxFreq, abs, flush, clip}
+use Rattle.laws.specs.Order.{number, le-of-not-lt}
+use Rattle.types.specs.Bits.{zero32}
+use Rattle.definition.specs.Floats.{tiny, maxFreq, abs, flush, clip}
 use Rattle.definition.specs.Rules.{plusZero, weightFits, freqFits}
 
 pub or-l : (a b : Bool) → T a → T (a || b)

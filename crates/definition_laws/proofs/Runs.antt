@@ -1,5 +1,5 @@
 -- Blocks one after the other, and what a block's slices hold. Assumes nothing.
-use Prim.Native.Nat.{ℕ, zero, suc, _+_, _*_, _/_, _%_, _≤_, _<_}
+use Prim.Native.Nat.{ℕ, suc, _+_, _*_, _/_}
 use mathlib.Core.Path.{_≡_, refl, sym, _∙_, ap}
 use mathlib.Core.List.{List, [], _∷_, _++_, append-assoc, append-nil}
 use native.Mathlib.Omega.{arith}
@@ -9,7 +9,7 @@ use lib.Ieee.{Float}
 use Rattle.types.specs.declared.C32.{C32}
 use Rattle.definition.specs.Slices.{samplesOf}
 use Rattle.definition.specs.Sample.{Equalizer, Out, sampleDef}
-use Rattle.definition.specs.Run.{Run, ahead, runDef, written, symbolParts, markByte}
+use Rattle.definition.specs.Run.{ahead, runDef, written, symbolParts, markByte}
 
 -- a block in two parts
 pub run-append : (q : Equalizer) (xs ys : List C32) → runDef q (xs ++ ys) ≡ ahead (runDef q xs .outs) (runDef (runDef q xs .equalizer) ys)

@@ -1,11 +1,10 @@
 -- Which test of a list fails first, and what `Served` says. Assumes nothing.
 use Prim.Native.Nat.{ℕ, _/_, _%_}
-use mathlib.Core.Path.{_≡_, refl, sym, _∙_, ap}
+use mathlib.Core.Path.{_≡_, refl, sym}
 use mathlib.Core.Bool.{Bool, true, false, cond, _&&_}
 use mathlib.Core.List.{List, [], _∷_, _++_}
 use native.Mathlib.Omega.{arith}
 use lib.ListN.{length}
-use lib.Dec.{eqb}
 use lib.Ieee.{Float}
 use borrow.Author.Tests.{eqb-true}
 use Rattle.types.specs.declared.Error.{Error}
@@ -15,7 +14,7 @@ use Rattle.definition.specs.Refusals.{Test, test, firstOf}
 use Rattle.definition.specs.Slices.{whole}
 use Rattle.definition.specs.Sample.{Equalizer}
 use Rattle.definition.specs.Rules.{rules, acceptedDef}
-use Rattle.definition.specs.Calls.{even, Lengths, lengthsOf, equalizeTests, verdictDef}
+use Rattle.definition.specs.Calls.{even, lengthsOf, equalizeTests, verdictDef}
 
 -- ---- Booleans
 

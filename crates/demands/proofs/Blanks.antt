@@ -1,11 +1,11 @@
 -- What blanks do, and the window after them. Assumes nothing.
-use Prim.Native.Nat.{ℕ, zero, suc, _+_, _-_, _*_, _/_, _%_, _<_, _≤_, min, max}
+use Prim.Native.Nat.{ℕ, zero, suc, _+_, _-_, _*_, _<_, _≤_, min}
 use mathlib.Core.Path.{_≡_, refl, sym, _∙_, ap, subst}
 use mathlib.Core.Bool.{Bool, true, false, cond, not, _&&_}
 use mathlib.Core.List.{List, [], _∷_, _++_, append-assoc, append-nil}
 use native.Mathlib.Nat.{le-of-suc-le-suc, not-suc-le-zero}
 use native.Mathlib.Omega.{arith}
-use lib.ListN.{length, take, drop, replicate, length-append, length-take, length-drop, length-replicate, replicate-append-replicate, drop-of-length-le, take-append-drop}
+use lib.ListN.{length, take, drop, length-drop, length-replicate, replicate-append-replicate, drop-of-length-le, take-append-drop}
 use lib.Seq.{take-take, take-append-le, take-at, drop-at, length-take-le, take-all}
 use lib.Dec.{T, eqb, ltb, eqb→eq, ltb→lt}
 use borrow.Author.Tests.{eq-eqb, ne-eqb, eqb-true}
@@ -14,18 +14,17 @@ use lib.Ieee.Fits.{and-l, and-r}
 use Rattle.types.specs.declared.C32.{C32}
 use Rattle.types.specs.declared.EqMode.{EqMode}
 use Rattle.types.specs.declared.EqMode.the-variants.{Cma, Decision}
-use Rattle.types.specs.declared.EqParams.{EqParams}
 use Rattle.types.specs.declared.EqualizeState.{EqualizeState}
 use Rattle.types.specs.Bits.{zero32}
 use Rattle.definition.specs.Floats.{zeroC, finiteC}
 use Rattle.definition.specs.Slices.{shifted, zeros}
-use Rattle.definition.specs.Sample.{Equalizer, Did, Out, allTaps, feedback, forward, neverSwitch, sanitized, step1, step3, passedBy, fedIn, withMode, advanceIn, advance, step8, sampleDef}
-use Rattle.definition.specs.Rules.{countFits, ruleR4, acceptedDef, TapCounts}
+use Rattle.definition.specs.Sample.{Equalizer, Did, Out, feedback, forward, neverSwitch, sanitized, step1, step3, fedIn, withMode, advanceIn, advance, step8, sampleDef}
+use Rattle.definition.specs.Rules.{countFits, ruleR4, TapCounts}
 use Rattle.definition.specs.Run.{Run, ahead, runDef}
 use Rattle.definition_laws.proofs.Accept.{Accepted, accepted-parts, shape}
 use Rattle.definition_laws.proofs.Kept.{advance-keeps, sample-accepted}
 use Rattle.definition_laws.proofs.Verdicts.{both}
-use Rattle.demands.specs.Blanks.{allBlank, Blanks, blankOut, countAfter, modeAt, windowAfter, AfterBlanks, BlankRun, BlanksClaim, ClearClaim}
+use Rattle.demands.specs.Blanks.{allBlank, blankOut, countAfter, modeAt, windowAfter, BlankRun, BlanksClaim, ClearClaim}
 
 -- ---- one blank
 

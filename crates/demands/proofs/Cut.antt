@@ -1,20 +1,19 @@
 -- A list of calls is one run over the samples of those that are served, so the cut into calls does not matter. Assumes nothing.
 use Prim.Native.Nat.{ℕ}
-use mathlib.Core.Path.{_≡_, refl, sym, _∙_, ap, subst}
-use mathlib.Core.Bool.{true}
-use mathlib.Core.List.{List, [], _∷_, _++_, append-assoc}
+use mathlib.Core.Path.{_≡_, refl, sym, _∙_, ap}
+use mathlib.Core.List.{List, [], _∷_, _++_}
 use lib.Ieee.{Float}
 use Rattle.types.specs.declared.C32.{C32}
 use Rattle.types.specs.declared.Outcome.{Outcome}
 use Rattle.types.specs.declared.Outcome.the-variants.{Served, Refused}
 use Rattle.definition.specs.Slices.{samplesOf}
-use Rattle.definition.specs.Sample.{Equalizer, Out}
+use Rattle.definition.specs.Sample.{Equalizer}
 use Rattle.definition.specs.Rules.{rules}
-use Rattle.definition.specs.Run.{Run, ahead, runDef, written, symbolParts, markByte}
+use Rattle.definition.specs.Run.{Run, runDef, written, symbolParts, markByte}
 use Rattle.definition.specs.Calls.{lengthsOf, verdictDef, Answer, answerBy, equalizeDef}
 use Rattle.definition_laws.proofs.Runs.{run-append, written-append}
-use Rattle.demands.specs.Traces.{Path, plain, quick, joint, Call, callDef, Promised, Observed, Follow, none, next, ifServed, samples, symbols, marks, left}
-use Rattle.demands.specs.Cut.{OneRun, CallsAreOneRun, Same, AnyCut}
+use Rattle.demands.specs.Traces.{Path, plain, quick, joint, Call, callDef, Promised, Observed, Follow, none, next, samples, symbols, marks, left}
+use Rattle.demands.specs.Cut.{OneRun, CallsAreOneRun, AnyCut}
 
 -- all three paths promise the definition
 pub kept : (p : Path) (q : Equalizer) (c : Call) (a : Answer) → Promised p q c a → a ≡ callDef q c

@@ -1,12 +1,11 @@
 -- Demand 3: two lists of calls over n blanks and one stream. Assumes nothing.
-use Prim.Native.Nat.{ℕ, zero, suc, _+_, _*_, _/_, _%_, _<_, _≤_, max, min}
+use Prim.Native.Nat.{ℕ, zero, suc, _+_, _*_, _/_, _≤_, max}
 use mathlib.Core.Path.{_≡_, refl, sym, _∙_, ap, subst}
-use mathlib.Core.Bool.{Bool, true, false, cond, not, _&&_}
+use mathlib.Core.Bool.{true, not}
 use mathlib.Core.List.{List, [], _∷_, _++_}
-use native.Mathlib.Nat.{le-refl, le-of-suc-le-suc, not-suc-le-zero}
 use native.Mathlib.Omega.{arith}
-use lib.ListN.{length, take, drop, replicate, length-replicate}
-use lib.Seq.{length-take-le, take-at, take-all}
+use lib.ListN.{length, take, replicate, length-replicate}
+use lib.Seq.{length-take-le, take-at}
 use lib.Dec.{T}
 use lib.Ieee.{Float}
 use Rattle.types.specs.declared.C32.{C32}
@@ -16,7 +15,7 @@ use Rattle.types.specs.Bits.{zero32}
 use Rattle.types.specs.Numbers.{markNumber}
 use Rattle.definition.specs.Floats.{finiteC}
 use Rattle.definition.specs.Slices.{zeros}
-use Rattle.definition.specs.Sample.{Equalizer, Out, allTaps, feedback, forward, withMode}
+use Rattle.definition.specs.Sample.{Equalizer, Out, feedback, forward, withMode}
 use Rattle.definition.specs.Rules.{acceptedDef}
 use Rattle.definition.specs.Run.{Run, ahead, runDef, written, symbolParts, markByte}
 use Rattle.definition_laws.proofs.Accept.{accepted-parts, shape}
@@ -24,7 +23,7 @@ use Rattle.definition_laws.proofs.Runs.{run-append, written-append}
 use Rattle.definition_laws.proofs.Verdicts.{both, and-true}
 use Rattle.demands.specs.Traces.{Observed, Follow, samples, symbols, marks, left}
 use Rattle.demands.specs.Cut.{OneRun, Same}
-use Rattle.demands.specs.Blanks.{allBlank, Blanks, blankOut, countAfter, modeAt, windowAfter, AfterBlanks, BlankRun}
+use Rattle.demands.specs.Blanks.{allBlank, Blanks, blankOut, countAfter, modeAt, AfterBlanks, BlankRun}
 use Rattle.demands.specs.Demand3.{Dropout, Dropped, Recovered, Demand3}
 use Rattle.demands.proofs.Cut.{calls-are-one-run, follow-front}
 use Rattle.demands.proofs.Blanks.{blanks-claim, clear-claim}

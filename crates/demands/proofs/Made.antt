@@ -1,6 +1,6 @@
 -- What `new`, `reset` and the setters leave is accepted, a refusal leaves all as it came, and a setter moves its one setting. Assumes nothing.
-use Prim.Native.Nat.{ℕ, _+_, _-_, _*_, _/_, _%_, _<_, _≤_}
-use mathlib.Core.Path.{_≡_, refl, sym, _∙_, ap, subst}
+use Prim.Native.Nat.{ℕ, _-_, _*_, _/_, _%_, _<_}
+use mathlib.Core.Path.{_≡_, refl, sym, subst}
 use mathlib.Core.Bool.{Bool, true, false, cond, not, _&&_}
 use mathlib.Core.List.{List}
 use native.Mathlib.Omega.{arith}
@@ -10,29 +10,26 @@ use borrow.Author.Tests.{lt-ltb, eq-eqb, eqb-true, eqb-false}
 use lib.Ieee.{Float, nan, inf, fin, binary32, toBits, isNan}
 use lib.Ieee.Fits.{eq→eqb}
 use lib.Ieee.Scale.{finite}
-use Rattle.types.specs.declared.EqMode.{EqMode}
 use Rattle.types.specs.declared.EqMode.the-variants.{Cma, Decision}
 use Rattle.types.specs.declared.EqParams.{EqParams}
 use Rattle.types.specs.declared.EqualizeState.{EqualizeState}
 use Rattle.types.specs.declared.Error.{Error}
 use Rattle.types.specs.declared.Error.the-variants.{MuCma, MuDd}
-use Rattle.types.specs.declared.Fresh.{Fresh}
 use Rattle.types.specs.declared.Fresh.the-variants.{Made, NotMade}
 use Rattle.types.specs.declared.Outcome.{Outcome}
 use Rattle.types.specs.declared.Outcome.the-variants.{Served, Refused}
 use Rattle.types.specs.Bits.{zero32}
-use Rattle.definition.specs.Floats.{maxFreq, flush, clip}
-use Rattle.definition.specs.Slices.{complexLength, whole, every, zeros, startWeights}
+use Rattle.definition.specs.Slices.{complexLength, zeros, startWeights}
 use Rattle.definition.specs.Gains.{phaseDamping, gainKp, gainKi}
 use Rattle.definition.specs.Sample.{Equalizer, allTaps, feedback, forward, neverSwitch}
 use Rattle.definition.specs.Rules.{sameBits, tapsFit, feedbackFits, muFits, bwFits, freqFits, ruleR1, ruleR2, countFits, ruleR4, acceptedDef}
 use Rattle.types.specs.Start.{startMode, startState}
-use Rattle.definition.specs.Calls.{even, startOver, freshState, newTests, newVerdict, NewAnswer, newBy, newDef, resetVerdict, ResetAnswer, resetBy, resetDef, withParams, withMus, SetAnswer, setAnswer, setMuCmaDef, setMuDdDef, heldFreq, setFrequencyDef}
+use Rattle.definition.specs.Calls.{startOver, freshState, newTests, newVerdict, newBy, newDef, resetVerdict, resetBy, resetDef, withParams, withMus, SetAnswer, setAnswer, setMuCmaDef, setMuDdDef, heldFreq, setFrequencyDef}
 use Rattle.definition_laws.proofs.Every.{every-replicate, length-start}
 use Rattle.definition_laws.proofs.Parts.{is-true, finite-zero, zero-freq-fits, freq-fits}
 use Rattle.definition_laws.proofs.Accept.{Accepted, accepted-parts, accepted-whole}
 use Rattle.definition_laws.proofs.Kept.{start-fits}
-use Rattle.definition_laws.proofs.Verdicts.{both, fine, refused-not, no-both}
+use Rattle.definition_laws.proofs.Verdicts.{both, fine, refused-not}
 use Rattle.demands.specs.Demand1.{withState, OthersAccepted, OthersRefused, SettersMove}
 
 of-true : {b : Bool} → b ≡ true → T b

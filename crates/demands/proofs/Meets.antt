@@ -1,9 +1,9 @@
 -- The statements are not empty: the bound of `no-spill` is sharp, and demand 3's premise is met by two lists of calls cut in different ways, one
 -- with a refused call, by different paths. Computed; assumes nothing.
 use Prim.Native.Nat.{ℕ, zero, suc}
-use mathlib.Core.Path.{_≡_, refl}
-use mathlib.Core.Bool.{Bool, true, false}
-use mathlib.Core.List.{List, [], _∷_, _++_}
+use mathlib.Core.Path.{refl}
+use mathlib.Core.Bool.{false}
+use mathlib.Core.List.{List, [], _∷_}
 use lib.Dec.{lit≤}
 use lib.ListN.{replicate}
 use lib.Ieee.{Float, nan, inf}
@@ -14,9 +14,8 @@ use Rattle.types.specs.declared.EqualizeState.{EqualizeState}
 use Rattle.types.specs.Bits.{f32, f64, zero32}
 use Rattle.definition.specs.Floats.{complex}
 use Rattle.definition.specs.Sample.{Equalizer}
-use Rattle.definition.specs.Calls.{Answer}
 use Rattle.definition.proofs.Computed.{computed}
-use Rattle.demands.specs.Traces.{Path, plain, quick, joint, Call, callDef, Observed, Follow, none, next, samples}
+use Rattle.demands.specs.Traces.{Path, plain, joint, Call, callDef, Observed, none, next, samples}
 use Rattle.demands.specs.Blanks.{allBlank}
 use Rattle.demands.specs.Demand3.{Dropout, Recovered}
 use Rattle.demands.specs.NoSpill.{upTo, Sharp}

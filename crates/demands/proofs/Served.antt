@@ -1,33 +1,31 @@
 -- Demand 1, the marks, and which calls are served from an accepted start. Assumes nothing.
-use Prim.Native.Nat.{ℕ, zero, suc, _+_, _*_, _/_, _%_, _≤_, _<_}
+use Prim.Native.Nat.{ℕ, zero, suc, _*_, _/_, _%_}
 use mathlib.Core.Path.{_≡_, refl, sym, _∙_, ap, subst}
 use mathlib.Core.Logic.{_⊎_, inl, inr}
-use mathlib.Core.Bool.{Bool, true, false, cond, _&&_}
-use mathlib.Core.List.{List, [], _∷_, _++_}
+use mathlib.Core.Bool.{Bool, true, _&&_}
+use mathlib.Core.List.{List, [], _∷_}
 use native.Mathlib.Nat.{not-suc-le-zero, le-of-suc-le-suc}
 use native.Mathlib.Omega.{arith}
-use lib.ListN.{length, getD, take}
+use lib.ListN.{length}
 use lib.Dec.{T, eqb}
 use lib.Ieee.{Float}
 use Rattle.types.specs.declared.C32.{C32}
-use Rattle.types.specs.declared.Error.{Error}
 use Rattle.types.specs.declared.Error.the-variants.{Odd, Record, Output, Marks}
 use Rattle.types.specs.declared.Outcome.{Outcome}
 use Rattle.types.specs.Numbers.{markNumber}
 use Rattle.types.specs.declared.Outcome.the-variants.{Served, Refused}
-use Rattle.definition.specs.Refusals.{Test, test, firstOf}
-use Rattle.definition.specs.Floats.{zeroC, finiteC}
+use Rattle.definition.specs.Refusals.{test, firstOf}
 use Rattle.definition.specs.Slices.{whole, samplesOf}
-use Rattle.definition.specs.Sample.{Equalizer, Did, allTaps, feedback, forward, step1, step2, step3, step8, sampleDef}
+use Rattle.definition.specs.Sample.{Equalizer, allTaps, forward, step1, step8, sampleDef}
 use Rattle.definition.specs.Rules.{rules, acceptedDef}
-use Rattle.definition.specs.Run.{Run, runDef, written, markByte}
-use Rattle.definition.specs.Calls.{even, lengthsOf, equalizeTests, verdictDef, Answer, answerBy, equalizeDef}
+use Rattle.definition.specs.Run.{runDef, written}
+use Rattle.definition.specs.Calls.{even, lengthsOf, equalizeTests, verdictDef, answerBy, equalizeDef}
 use Rattle.definition_laws.proofs.Parts.{is-true}
 use Rattle.definition_laws.proofs.Accept.{accepted-parts, accepted-whole}
 use Rattle.definition_laws.proofs.Kept.{run-accepted}
 use Rattle.definition_laws.proofs.Exits.{stage-mark}
 use Rattle.definition_laws.proofs.Runs.{run-outs, symbols-length, marks-length, samples-length}
-use Rattle.definition_laws.proofs.Verdicts.{both, and-true, passes, refused-not, served-fits}
+use Rattle.definition_laws.proofs.Verdicts.{both, served-fits}
 use Rattle.demands.specs.Demand1.{ServedCall, RefusedCall, Demand1, lengthsVerdict, ByLengths, markGiven, EveryMark}
 
 -- an accepted equalizer stays accepted over a block

@@ -1,8 +1,8 @@
 -- No sum of bounded products leaves the float range. Assumes nothing.
-use Prim.Native.Nat.{ℕ, zero, suc, _+_, _-_, _*_, _/_, _%_, _^_, _<_, _≤_, zero-le}
+use Prim.Native.Nat.{ℕ, zero, suc, _+_, _-_, _*_, _^_, _<_, _≤_, zero-le}
 use mathlib.Core.Path.{_≡_, refl, sym, _∙_, ap, subst}
-use mathlib.Core.Bool.{Bool, true, false, cond, _&&_}
-use mathlib.Core.List.{List, [], _∷_}
+use mathlib.Core.Bool.{Bool, true, false, cond}
+use mathlib.Core.List.{List}
 use native.Mathlib.Nat.{le-trans, le-of-eq, lt-of-lt-of-le, mul-le-mul-right, add-mul, mul-right-comm, one-mul, zero-mul}
 use native.Mathlib.Omega.{arith}
 use native.Mathlib.Numerals.{add-one}
@@ -10,19 +10,19 @@ use borrow.Author.Tests.{le-leb}
 use lib.ListN.{length, getD}
 use lib.Dec.{T, leb, leb→le, lit≤}
 use lib.Pow.{pow-add, pow-pos, pow-mono, pow-lt}
-use lib.Ieee.{Float, nan, inf, fin, binary32, prec, emax, low, up, down, ofBits, ofFields, odd, add, sub, mul}
+use lib.Ieee.{Float, nan, inf, fin, binary32, up, down, ofBits, ofFields, odd}
 use lib.Ieee.Fits.{and-i}
 use lib.Ieee.Scale.{finite}
 use Rattle.laws.specs.Bound.{AtMost, Held, mul-at-most, add-at-most, sub-at-most, at-most-mono, at-most-finite, term-more}
 use Rattle.types.specs.declared.C32.{C32}
 use Rattle.types.specs.Bits.{zero32}
-use Rattle.definition.specs.Floats.{_+f_, _-f_, _*f_, complex, zeroC, finiteC}
-use Rattle.definition.specs.Slices.{reAt, imAt, every, shifted, prodRe, prodIm, lane, laneCount, tree, sum8, filterSum}
-use Rattle.definition.specs.Sample.{Equalizer, allTaps, feedback, forward, sanitized, step1, step2}
-use Rattle.definition.specs.Rules.{acceptedDef, TapCounts}
+use Rattle.definition.specs.Floats.{_+f_, _-f_, _*f_, zeroC, finiteC}
+use Rattle.definition.specs.Slices.{reAt, imAt, every, prodRe, prodIm, lane, laneCount, tree, sum8, filterSum}
+use Rattle.definition.specs.Sample.{Equalizer, allTaps, forward, sanitized, step1, step2}
+use Rattle.definition.specs.Rules.{TapCounts}
 use Rattle.definition_laws.proofs.Parts.{is-true}
 use Rattle.definition_laws.proofs.Every.{every-at, every-shifted}
-use Rattle.definition_laws.proofs.Accept.{Accepted, accepted-parts, shape}
+use Rattle.definition_laws.proofs.Accept.{accepted-parts, shape}
 use Rattle.definition_laws.proofs.Kept.{step1-length}
 use Rattle.demands.specs.NoSpill.{upTo, NoSpill}
 

@@ -1,7 +1,7 @@
 -- WHAT BLANKS DO. "A blank is a sample of which a part is not finite."
 use Prim.Native.Nat.{ℕ, _+_, _*_, _≤_, min, max}
 use mathlib.Core.Path.{_≡_}
-use mathlib.Core.Bool.{Bool, true, false, cond, not, _&&_}
+use mathlib.Core.Bool.{Bool, true, cond, not, _&&_}
 use mathlib.Core.List.{List, [], _∷_, _++_}
 use lib.ListN.{length, take, drop, replicate}
 use lib.Dec.{eqb}

@@ -1,5 +1,4 @@
 -- EVERY CUT OF A STREAM INTO CALLS. A list of calls is one run over the samples of its served calls, so the cut does not matter.
-use Prim.Native.Nat.{ℕ}
 use mathlib.Core.Path.{_≡_}
 use mathlib.Core.List.{List}
 use Rattle.definition.specs.Sample.{Equalizer}

@@ -4,7 +4,6 @@ use mathlib.Core.Path.{_≡_}
 use mathlib.Core.Bool.{true}
 use mathlib.Core.List.{List, _++_}
 use lib.ListN.{length, take, replicate}
-use lib.Ieee.{Float}
 use Rattle.types.specs.declared.C32.{C32}
 use Rattle.types.specs.declared.Mark.the-variants.{Blank}
 use Rattle.types.specs.Numbers.{markNumber}
@@ -14,7 +13,7 @@ use Rattle.definition.specs.Rules.{acceptedDef}
 use Rattle.definition.specs.Run.{runDef}
 use Rattle.demands.specs.Traces.{Observed, Follow, samples, symbols, marks, left}
 use Rattle.demands.specs.Cut.{OneRun, Same}
-use Rattle.demands.specs.Blanks.{Blanks, blankOut, AfterBlanks, BlankRun}
+use Rattle.demands.specs.Blanks.{Blanks, AfterBlanks, BlankRun}
 
 -- what demand 3 starts from: p and q are the two equalizers, os and ps their lists of calls
 pub record Dropout (p q : Equalizer) (os ps : List Observed) (n : ℕ) (bs es stream : List C32) : Type 0 where

@@ -1,20 +1,18 @@
 -- One run more of a block: its part of output and marks goes behind what the runs before have written. Assumes nothing.
-use Prim.Native.Nat.{ℕ, _+_, _*_, _-_, _%_, _≤_, _<_}
+use Prim.Native.Nat.{ℕ, _+_, _*_, _-_, _%_, _≤_}
 use mathlib.Core.Path.{_≡_, refl, sym, _∙_, ap, subst}
-use mathlib.Core.Bool.{true}
-use mathlib.Core.List.{List, [], _∷_, _++_, append-assoc, append-nil}
-use native.Mathlib.Numerals.{add-one}
+use mathlib.Core.List.{List, [], _∷_, _++_, append-assoc}
 use native.Mathlib.Omega.{arith}
 use borrow.Rule.Slice.PartMut.{midOf, putMid, mid-len, post-is}
-use lib.ListN.{length, take, drop, set, length-append, take-append-drop, drop-of-length-le}
-use lib.Seq.{take-suc-set, take-all, take-at, length-take-le}
+use lib.ListN.{length, take, drop, length-append, take-append-drop}
+use lib.Seq.{take-at, length-take-le}
 use lib.Dec.{T}
 use lib.Ieee.{Float}
 use Rattle.types.specs.declared.C32.{C32}
 use Rattle.definition.specs.Floats.{complex}
-use Rattle.definition.specs.Slices.{reAt, imAt, samplesOf}
+use Rattle.definition.specs.Slices.{samplesOf}
 use Rattle.definition.specs.Packed.{equalizer, Ran}
-use Rattle.definition.specs.Sample.{Equalizer, Out, sampleDef}
+use Rattle.definition.specs.Sample.{Equalizer}
 use Rattle.definition.specs.Rules.{acceptedDef}
 use Rattle.definition.specs.Run.{Run, ahead, runDef, symbolParts, markByte}
 use Rattle.definition_laws.proofs.Progress.{Progress, written-more}

@@ -1,3 +1,3 @@
--- Sample: one sample on the arrays. RunLoop: the loop over the samples of a run.
-pub mod Sample
+-- OneSample: one sample on the arrays. RunLoop: the loop over the samples of a run.
+pub mod OneSample
 pub mod RunLoop

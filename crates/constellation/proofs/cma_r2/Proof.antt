@@ -1,3 +1,4 @@
+-- `cma_r2` gives R2: the constants are the definition's fractions rounded.
 use borrow.Author.Needs.{needs}
 use Rattle.constellation.proofs.Radius.{radius-is}
 use Rattle.constellation.proofs.cma_r2.Statement.{statement}

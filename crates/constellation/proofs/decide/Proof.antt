@@ -1,3 +1,4 @@
+-- `decide` gives the definition's point: one law for each constellation.
 use borrow.Author.Needs.{needs}
 use Rattle.definition.specs.Points.{decide}
 use Rattle.constellation.proofs.decide.Statement.{statement}

@@ -1,3 +1,4 @@
+-- `decide_level` is the floor held to the levels, for both grids.
 use borrow.Author.Needs.{needs}
 use Rattle.definition.specs.Points.{levelOf}
 use Rattle.constellation.proofs.Levels.{level-of}

@@ -1,3 +1,4 @@
+-- `decide_qam` gives the definition's point of either grid.
 use borrow.Author.Needs.{needs}
 use Rattle.constellation.proofs.decide_qam.Statement.{statement}
 use Rattle.constellation.proofs.decide_qam.Tie as tie

@@ -1,3 +1,4 @@
+-- `floor8` is the floor held to 0 .. 7, by comparisons.
 use borrow.Author.Needs.{needs}
 use Prim.Native.Nat.{ℕ}
 use Rattle.constellation.proofs.Levels.{picked8}

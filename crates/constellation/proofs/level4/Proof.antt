@@ -1,3 +1,4 @@
+-- `level4` picks the level by comparisons: it is the table's at the definition's index.
 use borrow.Author.Needs.{needs}
 use Prim.Native.Nat.{ℕ}
 use lib.ListN.{getD}

@@ -1,3 +1,4 @@
+-- `point16` is the level of each part.
 use borrow.Author.Needs.{needs}
 use Rattle.definition.specs.Points.{qamPoint}
 use Rattle.constellation.proofs.point16.Statement.{statement}

@@ -1,3 +1,4 @@
+-- `point64` is the level of each part.
 use borrow.Author.Needs.{needs}
 use Rattle.definition.specs.Points.{qamPoint}
 use Rattle.constellation.proofs.point64.Statement.{statement}

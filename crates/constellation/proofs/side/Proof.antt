@@ -1,3 +1,4 @@
+-- `side` gives a with the sign of v: -0 and a NaN count as positive.
 use Rattle.definition.specs.Points.{side}
 use Rattle.constellation.proofs.side.Statement.{statement}
 use Rattle.constellation.proofs.side.Tie as tie

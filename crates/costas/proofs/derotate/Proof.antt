@@ -1,3 +1,4 @@
+-- `derotate` turns back by the definition's four products, in its order.
 use mathlib.Core.Path.{refl}
 use Rattle.definition.specs.Turns.{derotated}
 use Rattle.costas.proofs.derotate.Statement.{statement}

@@ -1,3 +1,4 @@
+-- `integrate` is flush, then clip: by its one test, or by the two functions.
 use borrow.Author.Needs.{needs}
 use Rattle.costas.proofs.Sizes.{kept}
 use Rattle.costas.proofs.integrate.Statement.{statement}

@@ -1,3 +1,4 @@
+-- `loop_gains` gives the definition's gains: the same operations of f64, then `narrow`.
 use borrow.Author.Needs.{needs}
 use Rattle.definition.specs.Gains.{loopGains, gainKp, gainKi, theta, divisor}
 use Rattle.costas.proofs.loop_gains.Statement.{statement}

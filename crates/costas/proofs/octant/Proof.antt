@@ -1,3 +1,4 @@
+-- `octant` counts the octants by three tests, as the definition does.
 use borrow.Author.Needs.{needs}
 use Rattle.costas.proofs.Octants.{octant-is}
 use Rattle.costas.proofs.octant.Statement.{statement}

@@ -1,3 +1,4 @@
+-- `octant_point` gives the point of the octant: the two tables are the definition's.
 use borrow.Author.Needs.{needs}
 use Rattle.costas.proofs.Octants.{octant-in, point-is}
 use Rattle.costas.proofs.octant_point.Statement.{statement}

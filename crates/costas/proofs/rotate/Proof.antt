@@ -1,3 +1,4 @@
+-- `rotate` turns by the definition's four products, in its order.
 use mathlib.Core.Path.{refl}
 use Rattle.definition.specs.Turns.{rotated}
 use Rattle.costas.proofs.rotate.Statement.{statement}

@@ -1,3 +1,4 @@
+-- `size` is the magnitude, but that -0 stays.
 use Rattle.costas.proofs.size.Statement.{statement}
 use Rattle.costas.proofs.size.Tie as tie
 

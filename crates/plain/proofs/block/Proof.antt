@@ -1,3 +1,4 @@
+-- `block` passes over the samples of a block: the loop's record is `Turns`, the measure what is left of the marks.
 use borrow.Author.Needs.{needs}
 use Prim.Native.Nat.{_-_}
 use native.Mathlib.Omega.{arith}

@@ -1,5 +1,6 @@
+-- `feed` shifts the fed-back sample into the feedback part of the window.
 use borrow.Author.Needs.{needs}
-use Rattle.plain.proofs.Sample.{feed-is}
+use Rattle.plain.proofs.OneSample.{feed-is}
 use Rattle.plain.proofs.feed.Statement.{statement}
 use Rattle.plain.proofs.feed.Tie as tie
 

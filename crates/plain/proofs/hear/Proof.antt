@@ -1,6 +1,7 @@
+-- `hear` is steps 4 to 7 over the slices: `step` and the weights' update, joined by `heard-by`.
 use borrow.Author.Needs.{needs}
 use Rattle.definition.specs.Slices.{power}
-use Rattle.plain.proofs.Sample.{heard-by}
+use Rattle.plain.proofs.OneSample.{heard-by}
 use Rattle.plain.proofs.hear.Statement.{statement}
 use Rattle.plain.proofs.hear.Tie as tie
 

@@ -1,6 +1,7 @@
+-- `sample` is one sample of an accepted record: its taps fit, and `sample_sized` does the rest.
 use borrow.Author.Needs.{needs}
 use native.Mathlib.Omega.{arith}
-use Rattle.plain.proofs.Sample.{accepted-sized, accepted-r4}
+use Rattle.plain.proofs.OneSample.{accepted-sized, accepted-r4}
 use Rattle.plain.proofs.sample.Statement.{statement}
 use Rattle.plain.proofs.sample.Tie as tie
 

@@ -1,5 +1,6 @@
+-- `sample_sized` is steps 1 to 8: its calls, joined by `sample-is`.
 use borrow.Author.Needs.{needs}
-use Rattle.plain.proofs.Sample.{sample-is, tracked-r4, feed-fits, sized-again}
+use Rattle.plain.proofs.OneSample.{sample-is, tracked-r4, feed-fits, sized-again}
 use Rattle.plain.proofs.sample_sized.Statement.{statement}
 use Rattle.plain.proofs.sample_sized.Tie as tie
 

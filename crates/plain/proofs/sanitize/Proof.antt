@@ -1,3 +1,4 @@
+-- `sanitize` gives what the window stores: one law for each exit.
 use borrow.Author.Needs.{needs}
 use Rattle.plain.proofs.Stored.{sanitized-yes, sanitized-no}
 use Rattle.plain.proofs.sanitize.Statement.{statement}

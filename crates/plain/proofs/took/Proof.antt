@@ -1,6 +1,7 @@
+-- `took` is steps 2 to 7: blank, spilled or heard, one law for each.
 use borrow.Author.Needs.{needs}
 use borrow.Author.Tests.{not-true, not-false}
-use Rattle.plain.proofs.Sample.{took-blank, took-spilled, took-heard}
+use Rattle.plain.proofs.OneSample.{took-blank, took-spilled, took-heard}
 use Rattle.plain.proofs.took.Statement.{statement}
 use Rattle.plain.proofs.took.Tie as tie
 

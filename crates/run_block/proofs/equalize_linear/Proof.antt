@@ -1,3 +1,4 @@
+-- `equalize_linear` gives the definition's outcome: the taps of an accepted record fit, and `linear_state` does the rest.
 use borrow.Author.Needs.{needs}
 use Rattle.run_block.proofs.Call.{feedback-fits}
 use native.Mathlib.Omega.{arith}

@@ -1,3 +1,4 @@
+-- `linear_runs` passes over a whole block, run after run: the loop's record is `BlockLoop`, the measure what is left of the marks.
 use Prim.Native.Nat.{_-_}
 use native.Mathlib.Omega.{arith}
 use borrow.Author.Needs.{needs}

@@ -1,3 +1,4 @@
+-- `linear_state` gives the definition's outcome of a block: load, all runs and store, joined by `call-is`.
 use mathlib.Core.Path.{refl}
 use Rattle.run_block.proofs.Call.{asked-shape, asked-long, asked-r4, call-is}
 use borrow.Author.Needs.{needs}

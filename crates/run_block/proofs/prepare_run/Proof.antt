@@ -1,3 +1,4 @@
+-- `prepare_run` puts a run's samples in and makes what depends on them alone: its four calls, joined by `prepared`.
 use mathlib.Core.Path.{_∙_}
 use Rattle.run_block.proofs.WholeRun.{prepared}
 use native.Mathlib.Omega.{arith}

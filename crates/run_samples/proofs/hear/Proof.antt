@@ -1,5 +1,5 @@
-use Rattle.run_samples.proofs.Sample.{heard-exit, adapts-exit, lanes-exit}
-use native.Mathlib.Omega.{arith}
+-- `hear` is steps 4 to 7 of a sample on the arrays: `follow` and the weights' step, each by its own promise.
+use Rattle.run_samples.proofs.OneSample.{heard-exit, adapts-exit, lanes-exit}
 use borrow.Author.Needs.{needs}
 use Rattle.run_samples.proofs.hear.Statement.{statement}
 use Rattle.run_samples.proofs.hear.Tie as tie

@@ -1,3 +1,4 @@
+-- `run` passes over the samples of a run: the loop's record is `RunLoop`, the measure what is left of the marks.
 use borrow.Author.Needs.{needs}
 use Prim.Native.Nat.{_-_}
 use native.Mathlib.Omega.{arith}

@@ -1,5 +1,5 @@
-use Rattle.run_samples.proofs.Sample.{sampled, track-r4}
-use native.Mathlib.Omega.{arith}
+-- `sample` is steps 2 to 8 of a sample on the arrays: `take`, the feedback and the mode, joined by `sampled`.
+use Rattle.run_samples.proofs.OneSample.{sampled, track-r4}
 use borrow.Author.Needs.{needs}
 use Rattle.run_samples.proofs.sample.Statement.{statement}
 use Rattle.run_samples.proofs.sample.Tie as tie

@@ -1,5 +1,6 @@
+-- `step_size` is the one made ahead without feedback taps, and worked out from the power with them.
 use borrow.Author.Needs.{needs}
-use Rattle.run_samples.proofs.Sample.{size-ahead, size-now}
+use Rattle.run_samples.proofs.OneSample.{size-ahead, size-now}
 use Rattle.run_samples.proofs.step_size.Statement.{statement}
 use Rattle.run_samples.proofs.step_size.Tie as tie
 

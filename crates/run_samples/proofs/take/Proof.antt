@@ -1,5 +1,5 @@
 -- `take` is steps 2 to 7 of a sample on the arrays: blank, spilled or heard, by the two tests.
-use Rattle.run_samples.proofs.Sample.{take-blank, take-spilled, take-heard}
+use Rattle.run_samples.proofs.OneSample.{take-blank, take-spilled, take-heard}
 use borrow.Author.Needs.{needs}
 use borrow.Author.Tests.{not-true, not-false}
 use Rattle.run_samples.proofs.take.Statement.{statement}

@@ -1,3 +1,4 @@
+-- `aim_of` gives the error and the fed-back sample of the mode: one law for each.
 use borrow.Author.Needs.{needs}
 use Rattle.steps.proofs.Exits.{aim-cma, aim-decision}
 use Rattle.steps.proofs.aim_of.Statement.{statement}

@@ -1,3 +1,4 @@
+-- `fed_if` feeds back nothing where the forward window is silent.
 use borrow.Author.Needs.{needs}
 use Rattle.steps.proofs.Exits.{fed-no}
 use Rattle.steps.proofs.fed_if.Statement.{statement}

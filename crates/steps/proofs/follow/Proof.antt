@@ -1,3 +1,4 @@
+-- `follow` is `step` with the cosine and sine of the record's phase.
 use borrow.Author.Needs.{needs}
 use Rattle.steps.specs.Step.{stepOf}
 use Rattle.steps.proofs.follow.Statement.{statement}

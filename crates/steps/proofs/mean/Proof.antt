@@ -1,3 +1,4 @@
+-- `mean` renews the mean error where the error power is finite.
 use borrow.Author.Needs.{needs}
 use Rattle.steps.proofs.Exits.{mean-yes, mean-no}
 use Rattle.steps.proofs.mean.Statement.{statement}

@@ -1,3 +1,4 @@
+-- `modulus` is Godard's error, clipped by parts.
 use borrow.Author.Needs.{needs}
 use Rattle.definition.specs.Floats.{clipC}
 use Rattle.definition.specs.Sample.{godardError}

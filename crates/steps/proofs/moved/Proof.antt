@@ -1,3 +1,4 @@
+-- `moved` adds the phase step and wraps.
 use borrow.Author.Needs.{needs}
 use Rattle.steps.proofs.moved.Statement.{statement}
 use Rattle.steps.proofs.moved.Tie as tie

@@ -1,3 +1,4 @@
+-- `size_of` divides the mode's mu by the window power.
 use borrow.Author.Needs.{needs}
 use Rattle.steps.proofs.Exits.{size-cma, size-decision}
 use Rattle.steps.proofs.size_of.Statement.{statement}

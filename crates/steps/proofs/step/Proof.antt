@@ -1,3 +1,4 @@
+-- `step` is steps 4 to 7 with c and s: its calls, joined by `step-is`.
 use borrow.Author.Needs.{needs}
 use Rattle.steps.proofs.Exits.{step-is}
 use Rattle.steps.proofs.step.Statement.{statement}

@@ -1,3 +1,4 @@
+-- `update_of` gives a step where the window is live and both parts are finite, and none else.
 use borrow.Author.Needs.{needs}
 use Rattle.steps.proofs.Exits.{update-yes, update-no}
 use Rattle.steps.proofs.update_of.Statement.{statement}

@@ -1,4 +1,4 @@
-use borrow.Author.Needs.{needs}
+-- `start_mode` gives the mode at the start: one law for each exit of its test.
 use Rattle.types.proofs.Starts.{mode-none, mode-some}
 use Rattle.types.proofs.start_mode.Statement.{statement}
 use Rattle.types.proofs.start_mode.Tie as tie

@@ -1,5 +1,5 @@
 -- `equalizer::samples::float` is safe: a pattern that becomes a float is no NaN's. Assumes nothing.
-use Rattle.equalizer.proofs.NoNan.{single-pattern}
+use Rattle.laws.specs.NoNan.{single-pattern}
 use borrow.Author.Needs.{needs}
 use Rattle.equalizer.proofs.samples.float.Statement.{statement}
 use Rattle.equalizer.proofs.samples.float.Tie as tie

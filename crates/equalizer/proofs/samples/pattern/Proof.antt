@@ -1,5 +1,5 @@
 -- `equalizer::samples::pattern` is safe: a float that becomes a pattern is no NaN. Assumes nothing.
-use Rattle.equalizer.proofs.NoNan.{is-number}
+use Rattle.laws.specs.NoNan.{is-number}
 use borrow.Author.Needs.{needs}
 use Rattle.equalizer.proofs.samples.pattern.Statement.{statement}
 use Rattle.equalizer.proofs.samples.pattern.Tie as tie

@@ -1,10 +1,11 @@
+-- `shift` moves the first numbers up by one: the loop replaces them one by one, the measure is what is left of them.
 use borrow.Author.Needs.{needs}
-use Prim.Native.Nat.{ℕ, _+_, _-_, _*_, _≤_, suc}
-use mathlib.Core.Path.{_≡_, refl, sym, _∙_, ap}
+use Prim.Native.Nat.{_+_, _-_, _*_, _≤_, suc}
+use mathlib.Core.Path.{_≡_, refl}
 use native.Mathlib.Omega.{arith}
 use mathlib.Core.List.{_∷_}
 use lib.ListN.{length, getD, length-set}
-use lib.Ieee.{Float, nan}
+use lib.Ieee.{nan}
 use Rattle.definition_laws.proofs.Mapped.{Mapped, mapped-none, mapped-more, mapped-read, shift-list}
 use Rattle.plain.proofs.slices.shift.Statement.{statement}
 use Rattle.plain.proofs.slices.shift.Tie as tie

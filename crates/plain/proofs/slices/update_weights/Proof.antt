@@ -1,3 +1,4 @@
+-- `update_weights` renews the weights, or starts them anew where one is not finite: one law for each exit.
 use borrow.Author.Needs.{needs}
 use borrow.Author.Tests.{not-true, not-false}
 use Rattle.plain.proofs.Weights.{adapt-hold, adapt-kept, adapt-reset}

@@ -1,5 +1,6 @@
+-- `window_power` sums the squares in the slice's order: the sum so far is the definition's.
 use borrow.Author.Needs.{needs}
-use Prim.Native.Nat.{ℕ, _+_, _-_, _*_, _≤_}
+use Prim.Native.Nat.{_-_, _≤_}
 use mathlib.Core.Path.{_≡_}
 use native.Mathlib.Omega.{arith}
 use Rattle.definition.specs.Slices.{power}

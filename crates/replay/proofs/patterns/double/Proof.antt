@@ -1,6 +1,6 @@
 -- `replay::patterns::double` is safe: a pattern that becomes a float is no NaN's. Assumes nothing.
 use borrow.Author.Needs.{needs}
-use Rattle.replay.proofs.NoNan.{double-pattern}
+use Rattle.laws.specs.NoNan.{double-pattern}
 use Rattle.replay.proofs.patterns.double.Statement.{statement}
 use Rattle.replay.proofs.patterns.double.Tie as tie
 

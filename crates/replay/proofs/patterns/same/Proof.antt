@@ -1,6 +1,6 @@
 -- `replay::patterns::same` is safe: a float that becomes a pattern is no NaN. Assumes nothing.
 use borrow.Author.Needs.{needs}
-use Rattle.replay.proofs.NoNan.{is-number}
+use Rattle.laws.specs.NoNan.{is-number}
 use Rattle.replay.proofs.patterns.same.Statement.{statement}
 use Rattle.replay.proofs.patterns.same.Tie as tie
 

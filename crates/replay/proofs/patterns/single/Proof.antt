@@ -1,6 +1,6 @@
 -- `replay::patterns::single` is safe: a pattern that becomes a float is no NaN's. Assumes nothing.
 use borrow.Author.Needs.{needs}
-use Rattle.replay.proofs.NoNan.{single-pattern}
+use Rattle.laws.specs.NoNan.{single-pattern}
 use Rattle.replay.proofs.patterns.single.Statement.{statement}
 use Rattle.replay.proofs.patterns.single.Tie as tie
 

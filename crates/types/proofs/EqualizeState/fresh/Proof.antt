@@ -1,3 +1,4 @@
+-- `EqualizeState::fresh` gives the record at the start: its mode is `start_mode`'s.
 use borrow.Author.Needs.{needs}
 use Rattle.types.specs.Start.{startState}
 use Rattle.types.proofs.EqualizeState.fresh.Statement.{statement}

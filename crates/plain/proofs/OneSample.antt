@@ -1,7 +1,7 @@
 -- One sample: the pieces put together. Assumes nothing.
 use Prim.Native.Nat.{ℕ, _+_, _-_, _*_, _/_, _≤_, min}
-use mathlib.Core.Path.{_≡_, refl, sym, _∙_, ap, subst}
-use mathlib.Core.Bool.{Bool, true, false, cond}
+use mathlib.Core.Path.{_≡_, sym, _∙_, ap, subst}
+use mathlib.Core.Bool.{Bool, true, false}
 use mathlib.Core.List.{List, _++_, append-nil}
 use native.Mathlib.Omega.{arith}
 use borrow.Rule.Slice.PartMut.{putMid}
@@ -13,14 +13,11 @@ use Rattle.types.specs.declared.C32.{C32}
 use Rattle.types.specs.declared.CosSin.{CosSin}
 use Rattle.types.specs.declared.EqualizeState.{EqualizeState}
 use Rattle.types.specs.declared.Mark.the-variants.{Blank, Spilled}
-use Rattle.types.specs.declared.Update.{Update}
-use Rattle.definition.specs.Floats.{zeroC, finiteC, norm, minusC, scaledC}
-use Rattle.definition.specs.Slices.{complexLength, shifted, filterSum, dotComplex, power}
+use Rattle.definition.specs.Floats.{finiteC}
+use Rattle.definition.specs.Slices.{shifted, dotComplex, power}
 use Rattle.definition.specs.Phase.{cosSin}
-use Rattle.definition.specs.Points.{decide}
-use Rattle.definition.specs.Turns.{derotated}
 use Rattle.definition.specs.Packed.{equalizer}
-use Rattle.definition.specs.Sample.{Equalizer, Did, withRunning, allTaps, feedback, forward, sanitized, step1, step2, errorOf, fedOf, muOf, stepSize, live, updateOf, adapted, phaseError, tracked, hear, heardAs, passedBy, step3, fedIn, advance, step8, sampleDef}
+use Rattle.definition.specs.Sample.{Did, sanitized, step1, step2, muOf, stepSize, updateOf, adapted, tracked, hear, heardAs, step3, fedIn, advance, step8, sampleDef}
 use Rattle.definition.specs.Sample as sample
 use Rattle.definition.specs.Rules.{ruleR4, acceptedDef}
 use Rattle.definition_laws.proofs.Every.{length-shifted}
