@@ -9,7 +9,9 @@ sub-f : tie.Need-sub-f
 sub-f c = let a = accepted-sized _ _ _ (c .before .before .before .before .pre) in omega (arith, a .sum, a .some)
 
 sample-sized-requires : tie.Need-sample-sized-requires
-sample-sized-requires c κs = (accepted-sized _ _ _ (c .before .before .before .before .before .before .pre), accepted-r4 _ _ _ (c .before .before .before .before .before .before .pre))
+sample-sized-requires c κs =
+    let at-start = c .before .before .before .before .before .before in
+    (accepted-sized _ _ _ (at-start .pre), accepted-r4 _ _ _ (at-start .pre))
 
 same-length : tie.Need-same-length
 same-length c = search needs

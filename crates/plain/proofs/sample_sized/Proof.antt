@@ -11,10 +11,16 @@ shift-requires : tie.Need-shift-requires
 shift-requires c κs = search needs
 
 took-requires : tie.Need-took-requires
-took-requires c κs = sized-again _ _ _ _ _ _ (c .before .before .before .before .before .before .before .before .before .pre .0) _ (c .before .before .before .before .shift .ensures)
+took-requires c κs =
+    let at-shift = c .before .before .before .before in
+    let at-start = c .before .before .before .before .before .before .before .before .before in
+    sized-again _ _ _ _ _ _ (at-start .pre .0) _ (at-shift .shift .ensures)
 
 feed-requires : tie.Need-feed-requires
-feed-requires c κs = feed-fits _ _ _ _ _ _ _ (c .before .before .before .before .before .before .before .before .before .before .before .before .before .before .before .pre .0) (c .before .before .before .before .before .before .before .before .before .before .shift .ensures)
+feed-requires c κs =
+    let at-shift = c .before .before .before .before .before .before .before .before .before .before in
+    let at-start = c .before .before .before .before .before .before .before .before .before .before .before .before .before .before .before in
+    feed-fits _ _ _ _ _ _ _ (at-start .pre .0) (at-shift .shift .ensures)
 
 with-track-requires : tie.Need-with-track-requires
 with-track-requires c κs = search needs

@@ -12,7 +12,10 @@ unheard-requires : tie.Need-unheard-requires
 unheard-requires c κs = search needs
 
 returns : tie.Need-returns
-returns c = took-blank _ _ _ _ _ _ (c .before .before .before .before .before .pre) _ (c .before .before .finite-c .ensures) (not-true _ (c .before .if1 .taken)) _ (c .unheard .ensures)
+returns c =
+    let at-finite-c = c .before .before in
+    let at-start = c .before .before .before .before .before in
+    took-blank _ _ _ _ _ _ (at-start .pre) _ (at-finite-c .finite-c .ensures) (not-true _ (c .before .if1 .taken)) _ (c .unheard .ensures)
 
 dot-complex-c32-requires : tie.Need-dot-complex-c32-requires
 dot-complex-c32-requires c κs = search needs
@@ -27,7 +30,13 @@ same-length : tie.Need-same-length
 same-length c = search needs
 
 returns-2 : tie.Need-returns-2
-returns-2 c = took-spilled _ _ _ _ _ _ (c .before .before .before .before .before .before .before .before .before .pre) _ (c .before .before .before .before .before .before .finite-c .ensures) (not-false _ (c .before .before .before .before .before .if1 .left)) _ (c .before .before .before .dot-complex-c32 .ensures) _ (c .before .before .finite-c2 .ensures) (not-true _ (c .before .if2 .taken)) _ (c .unheard2 .ensures)
+returns-2 c =
+    let at-finite-c2 = c .before .before in
+    let at-dot-complex-c32 = c .before .before .before in
+    let at-if1 = c .before .before .before .before .before in
+    let at-finite-c = c .before .before .before .before .before .before in
+    let at-start = c .before .before .before .before .before .before .before .before .before in
+    took-spilled _ _ _ _ _ _ (at-start .pre) _ (at-finite-c .finite-c .ensures) (not-false _ (at-if1 .if1 .left)) _ (at-dot-complex-c32 .dot-complex-c32 .ensures) _ (at-finite-c2 .finite-c2 .ensures) (not-true _ (c .before .if2 .taken)) _ (c .unheard2 .ensures)
 
 hear-requires : tie.Need-hear-requires
 hear-requires c κs = search needs
@@ -36,7 +45,15 @@ same-length-2 : tie.Need-same-length-2
 same-length-2 c = search needs
 
 returns-3 : tie.Need-returns-3
-returns-3 c = took-heard _ _ _ _ _ _ (c .before .before .before .before .before .before .before .before .before .before .before .before .pre) _ (c .before .before .before .before .before .before .before .before .before .finite-c .ensures) (not-false _ (c .before .before .before .before .before .before .before .before .if1 .left)) _ (c .before .before .before .before .before .before .dot-complex-c32 .ensures) _ (c .before .before .before .before .before .finite-c2 .ensures) (not-false _ (c .before .before .before .before .if2 .left)) _ (c .before .before .hear .ensures)
+returns-3 c =
+    let at-hear = c .before .before in
+    let at-if2 = c .before .before .before .before in
+    let at-finite-c2 = c .before .before .before .before .before in
+    let at-dot-complex-c32 = c .before .before .before .before .before .before in
+    let at-if1 = c .before .before .before .before .before .before .before .before in
+    let at-finite-c = c .before .before .before .before .before .before .before .before .before in
+    let at-start = c .before .before .before .before .before .before .before .before .before .before .before .before in
+    took-heard _ _ _ _ _ _ (at-start .pre) _ (at-finite-c .finite-c .ensures) (not-false _ (at-if1 .if1 .left)) _ (at-dot-complex-c32 .dot-complex-c32 .ensures) _ (at-finite-c2 .finite-c2 .ensures) (not-false _ (at-if2 .if2 .left)) _ (at-hear .hear .ensures)
 
 pub took-spec : {M : Type 1} → statement M
 took-spec =

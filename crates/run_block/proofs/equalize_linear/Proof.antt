@@ -8,9 +8,11 @@ use Rattle.run_block.proofs.equalize_linear.Statement.{statement}
 use Rattle.run_block.proofs.equalize_linear.Tie as tie
 
 sub-n : tie.Need-sub-n
-sub-n c = omega (arith, feedback-fits _ _ _ _ _ _ (c .before .before .before .before .before .before .before .pre))
+sub-n c =
+    let at-start = c .before .before .before .before .before .before .before in
+    omega (arith, feedback-fits _ _ _ _ _ _ (at-start .pre))
 
-linear-state-requires : tie.Need-equalize-requires
+linear-state-requires : tie.Need-linear-state-requires
 unfolding cosBits
 linear-state-requires c κs = (refl, search needs)
 

@@ -17,7 +17,9 @@ abbrev μ-loop : tie.MeasureT-loop
     length marks - i
 
 loop-holds : tie.Need-loop-holds Inv-loop μ-loop
-loop-holds c = loop-none _ _ _ _ _ _ _ _ _ _ (c .before .before .before .pre .1 .1 .1 .0) (c .before .before .before .pre .1 .1 .1 .1 .0) (record { ps-long = simp length-replicate; ss-long = simp length-replicate }) (c .before .before .before .pre .1 .1 .1 .1 .1) (c .before .before .before .pre .1 .0 .0) (c .before .before .before .pre .1 .0 .1)
+loop-holds c =
+    let at-start = c .before .before .before in
+    loop-none _ _ _ _ _ _ _ _ _ _ (at-start .pre .1 .1 .1 .0) (at-start .pre .1 .1 .1 .1 .0) (record { ps-long = simp length-replicate; ss-long = simp length-replicate }) (at-start .pre .1 .1 .1 .1 .1) (at-start .pre .1 .0 .0) (at-start .pre .1 .0 .1)
 
 sub-least : tie.Need-sub-least Inv-loop μ-loop
 sub-least c = omega (arith, c .before .loop .inv .here, c .before .loop .inv .input, c .loop-test .taken)
@@ -26,16 +28,34 @@ least-requires : tie.Need-least-requires Inv-loop μ-loop
 least-requires c κs = search needs
 
 add-e : tie.Need-add-e Inv-loop μ-loop
-add-e c = omega (arith, c .before .before .loop .inv .here, c .before .before .loop .inv .input, c .before .loop-test .taken, c .least .ensures, c .before .before .before .before .before .before .good .1 .1 .1 .1 .1 .1 .1 .1 .1 .1 .1 .1 .0 .0)
+add-e c =
+    let at-loop = c .before .before in
+    let at-start = c .before .before .before .before .before .before in
+    omega (arith, at-loop .loop .inv .here, at-loop .loop .inv .input, c .before .loop-test .taken, c .least .ensures, at-start .good .1 .1 .1 .1 .1 .1 .1 .1 .1 .1 .1 .1 .0 .0)
 
-run-requires : tie.Need-block-requires Inv-loop μ-loop
-run-requires c κs = (c .before .before .before .before .before .before .before .before .before .before .before .before .before .before .before .pre .0, ((c .before .before .before .before .before .before .before .before .before .before .before .loop .inv .input, c .before .before .before .before .before .before .before .before .before .before .before .loop .inv .output), (c .before .before .before .before .before .before .before .before .before .before .before .before .before .before .before .pre .1 .1 .0, ((omega arith, (omega (arith, c .before .before .before .before .before .before .before .before .before .least .ensures), omega (arith, c .before .before .before .before .before .before .before .before .before .before .before .loop .inv .here, c .before .before .before .before .before .before .before .before .before .before .before .loop .inv .input, c .before .before .before .before .before .before .before .before .before .before .loop-test .taken, c .before .before .before .before .before .before .before .before .before .least .ensures))), (c .before .before .before .before .before .before .before .before .before .before .before .loop .inv .lanes, (c .before .before .before .before .before .before .before .before .before .before .before .loop .inv .long, (c .before .before .before .before .before .before .before .before .before .before .before .loop .inv .room, c .before .before .before .before .before .before .before .before .before .before .before .loop .inv .counts)))))))
+run-requires : tie.Need-run-requires Inv-loop μ-loop
+run-requires c κs =
+    let at-least = c .before .before .before .before .before .before .before .before .before in
+    let in-loop = c .before .before .before .before .before .before .before .before .before .before in
+    let at-loop = c .before .before .before .before .before .before .before .before .before .before .before in
+    let at-start = c .before .before .before .before .before .before .before .before .before .before .before .before .before .before .before in
+    (at-start .pre .0, ((at-loop .loop .inv .input, at-loop .loop .inv .output), (at-start .pre .1 .1 .0, ((omega arith, (omega (arith, at-least .least .ensures), omega (arith, at-loop .loop .inv .here, at-loop .loop .inv .input, in-loop .loop-test .taken, at-least .least .ensures))), (at-loop .loop .inv .lanes, (at-loop .loop .inv .long, (at-loop .loop .inv .room, at-loop .loop .inv .counts)))))))
 
 loop-less : tie.Need-loop-less Inv-loop μ-loop
-loop-less c = omega (arith, c .before .before .before .before .before .before .before .before .before .before .before .before .before .before .before .before .loop .inv .here, c .before .before .before .before .before .before .before .before .before .before .before .before .before .before .before .before .loop .inv .input, c .before .before .before .before .before .before .before .before .before .before .before .before .before .before .before .loop-test .taken, c .before .before .before .before .before .before .before .before .before .before .before .before .before .before .least .ensures, c .before .before .before .before .block .kept .1 .1 .1 .1 .1 .1 .1 .1 .1 .1 .1 .1 .1 .1 .0)
+loop-less c =
+    let at-run = c .before .before .before .before in
+    let at-least = c .before .before .before .before .before .before .before .before .before .before .before .before .before .before in
+    let in-loop = c .before .before .before .before .before .before .before .before .before .before .before .before .before .before .before in
+    let at-loop = c .before .before .before .before .before .before .before .before .before .before .before .before .before .before .before .before in
+    omega (arith, at-loop .loop .inv .here, at-loop .loop .inv .input, in-loop .loop-test .taken, at-least .least .ensures, at-run .run .kept .1 .1 .1 .1 .1 .1 .1 .1 .1 .1 .1 .1 .1 .1 .0)
 
 loop-again : tie.Need-loop-again Inv-loop μ-loop
-loop-again c = loop-more _ _ _ _ _ _ _ _ _ _ _ _ _ _ _ (c .before .before .before .before .before .before .before .before .before .before .before .before .before .before .before .before .loop .inv) _ _ _ _ _ _ _ (omega arith) (omega (arith, c .before .before .before .before .before .before .before .before .before .before .before .before .before .before .before .before .loop .inv .here, c .before .before .before .before .before .before .before .before .before .before .before .before .before .before .before .before .loop .inv .input, c .before .before .before .before .before .before .before .before .before .before .before .before .before .before .before .loop-test .taken, c .before .before .before .before .before .before .before .before .before .before .before .before .before .before .least .ensures)) (c .before .before .before .before .block .kept .1 .1 .1 .1 .1 .1 .1 .1 .1 .1 .1 .1 .1 .0) (c .before .before .before .before .block .kept .1 .1 .1 .1 .1 .1 .1 .1 .1 .1 .1 .1 .1 .1 .0) (c .before .before .before .before .run .ensures .0) (c .before .before .before .before .run .ensures .1)
+loop-again c =
+    let at-run = c .before .before .before .before in
+    let at-least = c .before .before .before .before .before .before .before .before .before .before .before .before .before .before in
+    let in-loop = c .before .before .before .before .before .before .before .before .before .before .before .before .before .before .before in
+    let at-loop = c .before .before .before .before .before .before .before .before .before .before .before .before .before .before .before .before in
+    loop-more _ _ _ _ _ _ _ _ _ _ _ _ _ _ _ (at-loop .loop .inv) _ _ _ _ _ _ _ (omega arith) (omega (arith, at-loop .loop .inv .here, at-loop .loop .inv .input, in-loop .loop-test .taken, at-least .least .ensures)) (at-run .run .kept .1 .1 .1 .1 .1 .1 .1 .1 .1 .1 .1 .1 .1 .0) (at-run .run .kept .1 .1 .1 .1 .1 .1 .1 .1 .1 .1 .1 .1 .1 .1 .0) (at-run .run .ensures .0) (at-run .run .ensures .1)
 
 same-length : tie.Need-same-length Inv-loop μ-loop
 same-length c = c .before .loop .inv .long-ys

@@ -6,67 +6,103 @@ use Rattle.run_block.proofs.run.Statement.{statement}
 use Rattle.run_block.proofs.run.Tie as tie
 
 mul-a : tie.Need-mul-a
-mul-a c = omega (arith, c .before .before .before .pre .1 .0 .0, c .before .before .before .pre .1 .0 .1, c .before .before .before .pre .1 .1 .1 .0 .0, c .before .before .before .pre .1 .1 .1 .0 .1 .0, c .before .before .before .pre .1 .1 .1 .0 .1 .1, c .before .before .before .good .1 .1 .1 .1 .1 .1 .1 .1 .1 .1 .1 .1 .0 .0, c .before .before .before .good .1 .1 .1 .1 .1 .1 .1 .1 .1 .1 .1 .1 .1 .0 .0)
+mul-a c =
+    let at-start = c .before .before .before in
+    omega (arith, at-start .pre .1 .0 .0, at-start .pre .1 .0 .1, at-start .pre .1 .1 .1 .0 .0, at-start .pre .1 .1 .1 .0 .1 .0, at-start .pre .1 .1 .1 .0 .1 .1, at-start .good .1 .1 .1 .1 .1 .1 .1 .1 .1 .1 .1 .1 .0 .0, at-start .good .1 .1 .1 .1 .1 .1 .1 .1 .1 .1 .1 .1 .1 .0 .0)
 
 mul-b : tie.Need-mul-b
-mul-b c = omega (arith, c .before .before .before .pre .1 .0 .0, c .before .before .before .pre .1 .0 .1, c .before .before .before .pre .1 .1 .1 .0 .0, c .before .before .before .pre .1 .1 .1 .0 .1 .0, c .before .before .before .pre .1 .1 .1 .0 .1 .1, c .before .before .before .good .1 .1 .1 .1 .1 .1 .1 .1 .1 .1 .1 .1 .0 .0, c .before .before .before .good .1 .1 .1 .1 .1 .1 .1 .1 .1 .1 .1 .1 .1 .0 .0)
+mul-b c =
+    let at-start = c .before .before .before in
+    omega (arith, at-start .pre .1 .0 .0, at-start .pre .1 .0 .1, at-start .pre .1 .1 .1 .0 .0, at-start .pre .1 .1 .1 .0 .1 .0, at-start .pre .1 .1 .1 .0 .1 .1, at-start .good .1 .1 .1 .1 .1 .1 .1 .1 .1 .1 .1 .1 .0 .0, at-start .good .1 .1 .1 .1 .1 .1 .1 .1 .1 .1 .1 .1 .1 .0 .0)
 
-mul-begin : tie.Need-mul-prepare-run
-mul-begin c = omega (arith, c .before .before .before .before .before .before .before .before .pre .1 .0 .0, c .before .before .before .before .before .before .before .before .pre .1 .0 .1, c .before .before .before .before .before .before .before .before .pre .1 .1 .1 .0 .0, c .before .before .before .before .before .before .before .before .pre .1 .1 .1 .0 .1 .0, c .before .before .before .before .before .before .before .before .pre .1 .1 .1 .0 .1 .1, c .before .before .before .before .before .before .before .before .good .1 .1 .1 .1 .1 .1 .1 .1 .1 .1 .1 .1 .0 .0, c .before .before .before .before .before .before .before .before .good .1 .1 .1 .1 .1 .1 .1 .1 .1 .1 .1 .1 .1 .0 .0, c .before .before .before .before .before .before .before .before .good .1 .1 .1 .1 .1 .1 .1 .1 .1 .1 .1 .1 .0 .1, c .before .before .before .before .before .before .before .before .good .1 .1 .1 .1 .1 .1 .1 .1 .1 .1 .1 .1 .1 .0 .1)
+mul-prepare-run : tie.Need-mul-prepare-run
+mul-prepare-run c =
+    let at-start = c .before .before .before .before .before .before .before .before in
+    omega (arith, at-start .pre .1 .0 .0, at-start .pre .1 .0 .1, at-start .pre .1 .1 .1 .0 .0, at-start .pre .1 .1 .1 .0 .1 .0, at-start .pre .1 .1 .1 .0 .1 .1, at-start .good .1 .1 .1 .1 .1 .1 .1 .1 .1 .1 .1 .1 .0 .0, at-start .good .1 .1 .1 .1 .1 .1 .1 .1 .1 .1 .1 .1 .1 .0 .0, at-start .good .1 .1 .1 .1 .1 .1 .1 .1 .1 .1 .1 .1 .0 .1, at-start .good .1 .1 .1 .1 .1 .1 .1 .1 .1 .1 .1 .1 .1 .0 .1)
 
-sub-begin : tie.Need-sub-prepare-run
-sub-begin c = search needs
+sub-prepare-run : tie.Need-sub-prepare-run
+sub-prepare-run c = search needs
 
-part-begin-start : tie.Need-part-begin-start
-part-begin-start c = search needs
+part-prepare-run-start : tie.Need-part-prepare-run-start
+part-prepare-run-start c = search needs
 
-part-begin-end : tie.Need-part-begin-end
-part-begin-end c = search needs
+part-prepare-run-end : tie.Need-part-prepare-run-end
+part-prepare-run-end c = search needs
 
-prepare-run-requires : tie.Need-begin-requires
+prepare-run-requires : tie.Need-prepare-run-requires
 prepare-run-requires c κs = search needs
 
 mul-run : tie.Need-mul-run
-mul-run c = omega (arith, c .before .before .before .before .before .before .before .before .before .before .before .before .before .before .before .before .before .pre .1 .0 .0, c .before .before .before .before .before .before .before .before .before .before .before .before .before .before .before .before .before .pre .1 .0 .1, c .before .before .before .before .before .before .before .before .before .before .before .before .before .before .before .before .before .pre .1 .1 .1 .0 .0, c .before .before .before .before .before .before .before .before .before .before .before .before .before .before .before .before .before .pre .1 .1 .1 .0 .1 .0, c .before .before .before .before .before .before .before .before .before .before .before .before .before .before .before .before .before .pre .1 .1 .1 .0 .1 .1, c .before .before .before .before .before .before .before .before .before .before .before .before .before .before .before .before .before .good .1 .1 .1 .1 .1 .1 .1 .1 .1 .1 .1 .1 .0 .0, c .before .before .before .before .before .before .before .before .before .before .before .before .before .before .before .before .before .good .1 .1 .1 .1 .1 .1 .1 .1 .1 .1 .1 .1 .1 .0 .0, c .before .before .before .before .before .before .before .before .before .before .before .before .before .before .before .before .before .good .1 .1 .1 .1 .1 .1 .1 .1 .1 .1 .1 .1 .0 .1, c .before .before .before .before .before .before .before .before .before .before .before .before .before .before .before .before .before .good .1 .1 .1 .1 .1 .1 .1 .1 .1 .1 .1 .1 .1 .0 .1)
+mul-run c =
+    let at-start = c .before .before .before .before .before .before .before .before .before .before .before .before .before .before .before .before .before in
+    omega (arith, at-start .pre .1 .0 .0, at-start .pre .1 .0 .1, at-start .pre .1 .1 .1 .0 .0, at-start .pre .1 .1 .1 .0 .1 .0, at-start .pre .1 .1 .1 .0 .1 .1, at-start .good .1 .1 .1 .1 .1 .1 .1 .1 .1 .1 .1 .1 .0 .0, at-start .good .1 .1 .1 .1 .1 .1 .1 .1 .1 .1 .1 .1 .1 .0 .0, at-start .good .1 .1 .1 .1 .1 .1 .1 .1 .1 .1 .1 .1 .0 .1, at-start .good .1 .1 .1 .1 .1 .1 .1 .1 .1 .1 .1 .1 .1 .0 .1)
 
 sub-run : tie.Need-sub-run
-sub-run c = omega (arith, c .before .before .before .before .before .before .before .before .before .before .before .before .before .before .before .before .before .pre .1 .0 .0, c .before .before .before .before .before .before .before .before .before .before .before .before .before .before .before .before .before .pre .1 .0 .1, c .before .before .before .before .before .before .before .before .before .before .before .before .before .before .before .before .before .pre .1 .1 .1 .0 .0, c .before .before .before .before .before .before .before .before .before .before .before .before .before .before .before .before .before .pre .1 .1 .1 .0 .1 .0, c .before .before .before .before .before .before .before .before .before .before .before .before .before .before .before .before .before .pre .1 .1 .1 .0 .1 .1, c .before .before .before .before .before .before .before .before .before .before .before .before .before .before .before .before .before .good .1 .1 .1 .1 .1 .1 .1 .1 .1 .1 .1 .1 .0 .0, c .before .before .before .before .before .before .before .before .before .before .before .before .before .before .before .before .before .good .1 .1 .1 .1 .1 .1 .1 .1 .1 .1 .1 .1 .1 .0 .0)
+sub-run c =
+    let at-start = c .before .before .before .before .before .before .before .before .before .before .before .before .before .before .before .before .before in
+    omega (arith, at-start .pre .1 .0 .0, at-start .pre .1 .0 .1, at-start .pre .1 .1 .1 .0 .0, at-start .pre .1 .1 .1 .0 .1 .0, at-start .pre .1 .1 .1 .0 .1 .1, at-start .good .1 .1 .1 .1 .1 .1 .1 .1 .1 .1 .1 .1 .0 .0, at-start .good .1 .1 .1 .1 .1 .1 .1 .1 .1 .1 .1 .1 .1 .0 .0)
 
 part-run-start : tie.Need-part-run-start
-part-run-start c = omega (arith, c .before .before .before .before .before .before .before .before .before .before .before .before .before .before .before .before .before .pre .1 .0 .0, c .before .before .before .before .before .before .before .before .before .before .before .before .before .before .before .before .before .pre .1 .0 .1, c .before .before .before .before .before .before .before .before .before .before .before .before .before .before .before .before .before .pre .1 .1 .1 .0 .0, c .before .before .before .before .before .before .before .before .before .before .before .before .before .before .before .before .before .pre .1 .1 .1 .0 .1 .0, c .before .before .before .before .before .before .before .before .before .before .before .before .before .before .before .before .before .pre .1 .1 .1 .0 .1 .1, c .before .before .before .before .before .before .before .before .before .before .before .before .before .before .before .before .before .good .1 .1 .1 .1 .1 .1 .1 .1 .1 .1 .1 .1 .0 .0, c .before .before .before .before .before .before .before .before .before .before .before .before .before .before .before .before .before .good .1 .1 .1 .1 .1 .1 .1 .1 .1 .1 .1 .1 .1 .0 .0)
+part-run-start c =
+    let at-start = c .before .before .before .before .before .before .before .before .before .before .before .before .before .before .before .before .before in
+    omega (arith, at-start .pre .1 .0 .0, at-start .pre .1 .0 .1, at-start .pre .1 .1 .1 .0 .0, at-start .pre .1 .1 .1 .0 .1 .0, at-start .pre .1 .1 .1 .0 .1 .1, at-start .good .1 .1 .1 .1 .1 .1 .1 .1 .1 .1 .1 .1 .0 .0, at-start .good .1 .1 .1 .1 .1 .1 .1 .1 .1 .1 .1 .1 .1 .0 .0)
 
 part-run-end : tie.Need-part-run-end
-part-run-end c = omega (arith, c .before .before .before .before .before .before .before .before .before .before .before .before .before .before .before .before .before .pre .1 .0 .0, c .before .before .before .before .before .before .before .before .before .before .before .before .before .before .before .before .before .pre .1 .0 .1, c .before .before .before .before .before .before .before .before .before .before .before .before .before .before .before .before .before .pre .1 .1 .1 .0 .0, c .before .before .before .before .before .before .before .before .before .before .before .before .before .before .before .before .before .pre .1 .1 .1 .0 .1 .0, c .before .before .before .before .before .before .before .before .before .before .before .before .before .before .before .before .before .pre .1 .1 .1 .0 .1 .1, c .before .before .before .before .before .before .before .before .before .before .before .before .before .before .before .before .before .good .1 .1 .1 .1 .1 .1 .1 .1 .1 .1 .1 .1 .0 .0, c .before .before .before .before .before .before .before .before .before .before .before .before .before .before .before .before .before .good .1 .1 .1 .1 .1 .1 .1 .1 .1 .1 .1 .1 .1 .0 .0)
+part-run-end c =
+    let at-start = c .before .before .before .before .before .before .before .before .before .before .before .before .before .before .before .before .before in
+    omega (arith, at-start .pre .1 .0 .0, at-start .pre .1 .0 .1, at-start .pre .1 .1 .1 .0 .0, at-start .pre .1 .1 .1 .0 .1 .0, at-start .pre .1 .1 .1 .0 .1 .1, at-start .good .1 .1 .1 .1 .1 .1 .1 .1 .1 .1 .1 .1 .0 .0, at-start .good .1 .1 .1 .1 .1 .1 .1 .1 .1 .1 .1 .1 .1 .0 .0)
 
 mul-run-2 : tie.Need-mul-run-2
-mul-run-2 c = omega (arith, c .before .before .before .before .before .before .before .before .before .before .before .before .before .before .before .before .before .before .pre .1 .0 .0, c .before .before .before .before .before .before .before .before .before .before .before .before .before .before .before .before .before .before .pre .1 .0 .1, c .before .before .before .before .before .before .before .before .before .before .before .before .before .before .before .before .before .before .pre .1 .1 .1 .0 .0, c .before .before .before .before .before .before .before .before .before .before .before .before .before .before .before .before .before .before .pre .1 .1 .1 .0 .1 .0, c .before .before .before .before .before .before .before .before .before .before .before .before .before .before .before .before .before .before .pre .1 .1 .1 .0 .1 .1, c .before .before .before .before .before .before .before .before .before .before .before .before .before .before .before .before .before .before .good .1 .1 .1 .1 .1 .1 .1 .1 .1 .1 .1 .1 .0 .0, c .before .before .before .before .before .before .before .before .before .before .before .before .before .before .before .before .before .before .good .1 .1 .1 .1 .1 .1 .1 .1 .1 .1 .1 .1 .1 .0 .0, c .before .before .before .before .before .before .before .before .before .before .before .before .before .before .before .before .before .before .good .1 .1 .1 .1 .1 .1 .1 .1 .1 .1 .1 .1 .0 .1, c .before .before .before .before .before .before .before .before .before .before .before .before .before .before .before .before .before .before .good .1 .1 .1 .1 .1 .1 .1 .1 .1 .1 .1 .1 .1 .0 .1)
+mul-run-2 c =
+    let at-start = c .before .before .before .before .before .before .before .before .before .before .before .before .before .before .before .before .before .before in
+    omega (arith, at-start .pre .1 .0 .0, at-start .pre .1 .0 .1, at-start .pre .1 .1 .1 .0 .0, at-start .pre .1 .1 .1 .0 .1 .0, at-start .pre .1 .1 .1 .0 .1 .1, at-start .good .1 .1 .1 .1 .1 .1 .1 .1 .1 .1 .1 .1 .0 .0, at-start .good .1 .1 .1 .1 .1 .1 .1 .1 .1 .1 .1 .1 .1 .0 .0, at-start .good .1 .1 .1 .1 .1 .1 .1 .1 .1 .1 .1 .1 .0 .1, at-start .good .1 .1 .1 .1 .1 .1 .1 .1 .1 .1 .1 .1 .1 .0 .1)
 
 sub-run-2 : tie.Need-sub-run-2
-sub-run-2 c = omega (arith, c .before .before .before .before .before .before .before .before .before .before .before .before .before .before .before .before .before .before .pre .1 .0 .0, c .before .before .before .before .before .before .before .before .before .before .before .before .before .before .before .before .before .before .pre .1 .0 .1, c .before .before .before .before .before .before .before .before .before .before .before .before .before .before .before .before .before .before .pre .1 .1 .1 .0 .0, c .before .before .before .before .before .before .before .before .before .before .before .before .before .before .before .before .before .before .pre .1 .1 .1 .0 .1 .0, c .before .before .before .before .before .before .before .before .before .before .before .before .before .before .before .before .before .before .pre .1 .1 .1 .0 .1 .1, c .before .before .before .before .before .before .before .before .before .before .before .before .before .before .before .before .before .before .good .1 .1 .1 .1 .1 .1 .1 .1 .1 .1 .1 .1 .0 .0, c .before .before .before .before .before .before .before .before .before .before .before .before .before .before .before .before .before .before .good .1 .1 .1 .1 .1 .1 .1 .1 .1 .1 .1 .1 .1 .0 .0)
+sub-run-2 c =
+    let at-start = c .before .before .before .before .before .before .before .before .before .before .before .before .before .before .before .before .before .before in
+    omega (arith, at-start .pre .1 .0 .0, at-start .pre .1 .0 .1, at-start .pre .1 .1 .1 .0 .0, at-start .pre .1 .1 .1 .0 .1 .0, at-start .pre .1 .1 .1 .0 .1 .1, at-start .good .1 .1 .1 .1 .1 .1 .1 .1 .1 .1 .1 .1 .0 .0, at-start .good .1 .1 .1 .1 .1 .1 .1 .1 .1 .1 .1 .1 .1 .0 .0)
 
 part-run-start-2 : tie.Need-part-run-start-2
-part-run-start-2 c = omega (arith, c .before .before .before .before .before .before .before .before .before .before .before .before .before .before .before .before .before .before .pre .1 .0 .0, c .before .before .before .before .before .before .before .before .before .before .before .before .before .before .before .before .before .before .pre .1 .0 .1, c .before .before .before .before .before .before .before .before .before .before .before .before .before .before .before .before .before .before .pre .1 .1 .1 .0 .0, c .before .before .before .before .before .before .before .before .before .before .before .before .before .before .before .before .before .before .pre .1 .1 .1 .0 .1 .0, c .before .before .before .before .before .before .before .before .before .before .before .before .before .before .before .before .before .before .pre .1 .1 .1 .0 .1 .1, c .before .before .before .before .before .before .before .before .before .before .before .before .before .before .before .before .before .before .good .1 .1 .1 .1 .1 .1 .1 .1 .1 .1 .1 .1 .0 .0, c .before .before .before .before .before .before .before .before .before .before .before .before .before .before .before .before .before .before .good .1 .1 .1 .1 .1 .1 .1 .1 .1 .1 .1 .1 .1 .0 .0)
+part-run-start-2 c =
+    let at-start = c .before .before .before .before .before .before .before .before .before .before .before .before .before .before .before .before .before .before in
+    omega (arith, at-start .pre .1 .0 .0, at-start .pre .1 .0 .1, at-start .pre .1 .1 .1 .0 .0, at-start .pre .1 .1 .1 .0 .1 .0, at-start .pre .1 .1 .1 .0 .1 .1, at-start .good .1 .1 .1 .1 .1 .1 .1 .1 .1 .1 .1 .1 .0 .0, at-start .good .1 .1 .1 .1 .1 .1 .1 .1 .1 .1 .1 .1 .1 .0 .0)
 
 part-run-end-2 : tie.Need-part-run-end-2
-part-run-end-2 c = omega (arith, c .before .before .before .before .before .before .before .before .before .before .before .before .before .before .before .before .before .before .pre .1 .0 .0, c .before .before .before .before .before .before .before .before .before .before .before .before .before .before .before .before .before .before .pre .1 .0 .1, c .before .before .before .before .before .before .before .before .before .before .before .before .before .before .before .before .before .before .pre .1 .1 .1 .0 .0, c .before .before .before .before .before .before .before .before .before .before .before .before .before .before .before .before .before .before .pre .1 .1 .1 .0 .1 .0, c .before .before .before .before .before .before .before .before .before .before .before .before .before .before .before .before .before .before .pre .1 .1 .1 .0 .1 .1, c .before .before .before .before .before .before .before .before .before .before .before .before .before .before .before .before .before .before .good .1 .1 .1 .1 .1 .1 .1 .1 .1 .1 .1 .1 .0 .0, c .before .before .before .before .before .before .before .before .before .before .before .before .before .before .before .before .before .before .good .1 .1 .1 .1 .1 .1 .1 .1 .1 .1 .1 .1 .1 .0 .0)
+part-run-end-2 c =
+    let at-start = c .before .before .before .before .before .before .before .before .before .before .before .before .before .before .before .before .before .before in
+    omega (arith, at-start .pre .1 .0 .0, at-start .pre .1 .0 .1, at-start .pre .1 .1 .1 .0 .0, at-start .pre .1 .1 .1 .0 .1 .0, at-start .pre .1 .1 .1 .0 .1 .1, at-start .good .1 .1 .1 .1 .1 .1 .1 .1 .1 .1 .1 .1 .0 .0, at-start .good .1 .1 .1 .1 .1 .1 .1 .1 .1 .1 .1 .1 .1 .0 .0)
 
 sub-run-3 : tie.Need-sub-run-3
-sub-run-3 c = omega (arith, c .before .before .before .before .before .before .before .before .before .before .before .before .before .before .before .before .before .before .before .pre .1 .0 .0, c .before .before .before .before .before .before .before .before .before .before .before .before .before .before .before .before .before .before .before .pre .1 .0 .1, c .before .before .before .before .before .before .before .before .before .before .before .before .before .before .before .before .before .before .before .pre .1 .1 .1 .0 .0, c .before .before .before .before .before .before .before .before .before .before .before .before .before .before .before .before .before .before .before .pre .1 .1 .1 .0 .1 .0, c .before .before .before .before .before .before .before .before .before .before .before .before .before .before .before .before .before .before .before .pre .1 .1 .1 .0 .1 .1, c .before .before .before .before .before .before .before .before .before .before .before .before .before .before .before .before .before .before .before .good .1 .1 .1 .1 .1 .1 .1 .1 .1 .1 .1 .1 .0 .0, c .before .before .before .before .before .before .before .before .before .before .before .before .before .before .before .before .before .before .before .good .1 .1 .1 .1 .1 .1 .1 .1 .1 .1 .1 .1 .1 .0 .0)
+sub-run-3 c =
+    let at-start = c .before .before .before .before .before .before .before .before .before .before .before .before .before .before .before .before .before .before .before in
+    omega (arith, at-start .pre .1 .0 .0, at-start .pre .1 .0 .1, at-start .pre .1 .1 .1 .0 .0, at-start .pre .1 .1 .1 .0 .1 .0, at-start .pre .1 .1 .1 .0 .1 .1, at-start .good .1 .1 .1 .1 .1 .1 .1 .1 .1 .1 .1 .1 .0 .0, at-start .good .1 .1 .1 .1 .1 .1 .1 .1 .1 .1 .1 .1 .1 .0 .0)
 
 part-run-start-3 : tie.Need-part-run-start-3
-part-run-start-3 c = omega (arith, c .before .before .before .before .before .before .before .before .before .before .before .before .before .before .before .before .before .before .before .pre .1 .0 .0, c .before .before .before .before .before .before .before .before .before .before .before .before .before .before .before .before .before .before .before .pre .1 .0 .1, c .before .before .before .before .before .before .before .before .before .before .before .before .before .before .before .before .before .before .before .pre .1 .1 .1 .0 .0, c .before .before .before .before .before .before .before .before .before .before .before .before .before .before .before .before .before .before .before .pre .1 .1 .1 .0 .1 .0, c .before .before .before .before .before .before .before .before .before .before .before .before .before .before .before .before .before .before .before .pre .1 .1 .1 .0 .1 .1, c .before .before .before .before .before .before .before .before .before .before .before .before .before .before .before .before .before .before .before .good .1 .1 .1 .1 .1 .1 .1 .1 .1 .1 .1 .1 .0 .0, c .before .before .before .before .before .before .before .before .before .before .before .before .before .before .before .before .before .before .before .good .1 .1 .1 .1 .1 .1 .1 .1 .1 .1 .1 .1 .1 .0 .0)
+part-run-start-3 c =
+    let at-start = c .before .before .before .before .before .before .before .before .before .before .before .before .before .before .before .before .before .before .before in
+    omega (arith, at-start .pre .1 .0 .0, at-start .pre .1 .0 .1, at-start .pre .1 .1 .1 .0 .0, at-start .pre .1 .1 .1 .0 .1 .0, at-start .pre .1 .1 .1 .0 .1 .1, at-start .good .1 .1 .1 .1 .1 .1 .1 .1 .1 .1 .1 .1 .0 .0, at-start .good .1 .1 .1 .1 .1 .1 .1 .1 .1 .1 .1 .1 .1 .0 .0)
 
 part-run-end-3 : tie.Need-part-run-end-3
-part-run-end-3 c = omega (arith, c .before .before .before .before .before .before .before .before .before .before .before .before .before .before .before .before .before .before .before .pre .1 .0 .0, c .before .before .before .before .before .before .before .before .before .before .before .before .before .before .before .before .before .before .before .pre .1 .0 .1, c .before .before .before .before .before .before .before .before .before .before .before .before .before .before .before .before .before .before .before .pre .1 .1 .1 .0 .0, c .before .before .before .before .before .before .before .before .before .before .before .before .before .before .before .before .before .before .before .pre .1 .1 .1 .0 .1 .0, c .before .before .before .before .before .before .before .before .before .before .before .before .before .before .before .before .before .before .before .pre .1 .1 .1 .0 .1 .1, c .before .before .before .before .before .before .before .before .before .before .before .before .before .before .before .before .before .before .before .good .1 .1 .1 .1 .1 .1 .1 .1 .1 .1 .1 .1 .0 .0, c .before .before .before .before .before .before .before .before .before .before .before .before .before .before .before .before .before .before .before .good .1 .1 .1 .1 .1 .1 .1 .1 .1 .1 .1 .1 .1 .0 .0)
+part-run-end-3 c =
+    let at-start = c .before .before .before .before .before .before .before .before .before .before .before .before .before .before .before .before .before .before .before in
+    omega (arith, at-start .pre .1 .0 .0, at-start .pre .1 .0 .1, at-start .pre .1 .1 .1 .0 .0, at-start .pre .1 .1 .1 .0 .1 .0, at-start .pre .1 .1 .1 .0 .1 .1, at-start .good .1 .1 .1 .1 .1 .1 .1 .1 .1 .1 .1 .1 .0 .0, at-start .good .1 .1 .1 .1 .1 .1 .1 .1 .1 .1 .1 .1 .1 .0 .0)
 
 run-requires : tie.Need-run-requires
-run-requires c κs = (c .before .before .before .before .before .before .before .before .before .before .before .before .before .before .before .before .before .before .before .before .pre .0, (run-fits _ _ _ _ _ (c .before .before .before .before .before .before .before .before .before .before .before .before .before .before .before .before .before .before .before .before .pre .1 .1 .1 .0 .0) (c .before .before .before .before .before .before .before .before .before .before .before .before .before .before .before .before .before .before .before .before .pre .1 .1 .1 .0 .1 .0) (c .before .before .before .before .before .before .before .before .before .before .before .before .before .before .before .before .before .before .before .before .pre .1 .1 .1 .0 .1 .1) (c .before .before .before .before .before .before .before .before .before .before .before .before .before .before .before .before .before .before .before .before .pre .1 .0 .0) (c .before .before .before .before .before .before .before .before .before .before .before .before .before .before .before .before .before .before .before .before .pre .1 .0 .1), (c .before .before .before .before .before .before .before .before .before .before .before .before .before .before .before .before .before .before .before .before .pre .1 .1 .0 .1, (c .before .before .before .before .before .before .before .before .before .before .before .before .before .before .before .before .before .before .before .before .pre .1 .1 .1 .1 .0, c .before .before .before .before .before .before .before .before .before .before .before .before .before .before .before .before .before .before .before .before .pre .1 .1 .1 .1 .1 .1 .1))))
+run-requires c κs =
+    let at-start = c .before .before .before .before .before .before .before .before .before .before .before .before .before .before .before .before .before .before .before .before in
+    (at-start .pre .0, (run-fits _ _ _ _ _ (at-start .pre .1 .1 .1 .0 .0) (at-start .pre .1 .1 .1 .0 .1 .0) (at-start .pre .1 .1 .1 .0 .1 .1) (at-start .pre .1 .0 .0) (at-start .pre .1 .0 .1), (at-start .pre .1 .1 .0 .1, (at-start .pre .1 .1 .1 .1 .0, at-start .pre .1 .1 .1 .1 .1 .1 .1))))
 
-sub-end : tie.Need-sub-finish-run
-sub-end c = omega (arith, c .before .before .before .before .before .before .before .before .before .before .before .before .before .before .before .before .before .before .before .before .before .before .before .before .before .before .before .before .pre .1 .1 .1 .0 .0)
+sub-finish-run : tie.Need-sub-finish-run
+sub-finish-run c =
+    let at-start = c .before .before .before .before .before .before .before .before .before .before .before .before .before .before .before .before .before .before .before .before .before .before .before .before .before .before .before .before in
+    omega (arith, at-start .pre .1 .1 .1 .0 .0)
 
-finish-run-requires : tie.Need-end-requires
-finish-run-requires c κs = (finish-fits _ _ _ _ _ _ _ _ _ _ _ _ _ _ _ _ _ _ _ (c .before .before .before .before .before .before .before .before .before .before .before .before .before .before .before .before .before .before .before .before .before .before .before .before .before .before .before .before .pre .1 .1 .1 .1 .1 .0) (c .before .before .before .before .before .before .before .before .before .before .before .before .before .before .before .before .before .before .prepare-run .ensures .0) (c .before .before .before .before .before .before .before .run .ensures), (omega (arith, c .before .before .before .before .before .before .before .before .before .before .before .before .before .before .before .before .before .before .before .before .before .before .before .before .before .before .before .before .pre .1 .1 .1 .0 .0, c .before .before .before .before .before .before .before .before .before .before .before .before .before .before .before .before .before .before .before .before .before .before .before .before .before .before .before .before .pre .1 .1 .1 .0 .1 .0), (c .before .before .before .before .before .before .before .before .before .before .before .before .before .before .before .before .before .before .before .before .before .before .before .before .before .before .before .before .pre .1 .1 .0 .0, (c .before .before .before .before .before .before .before .before .before .before .before .before .before .before .before .before .before .before .before .before .before .before .before .before .before .before .before .before .pre .1 .1 .0 .1) .back)))
+finish-run-requires : tie.Need-finish-run-requires
+finish-run-requires c κs =
+    let at-run = c .before .before .before .before .before .before .before in
+    let at-prepare-run = c .before .before .before .before .before .before .before .before .before .before .before .before .before .before .before .before .before .before in
+    let at-start = c .before .before .before .before .before .before .before .before .before .before .before .before .before .before .before .before .before .before .before .before .before .before .before .before .before .before .before .before in
+    (finish-fits _ _ _ _ _ _ _ _ _ _ _ _ _ _ _ _ _ _ _ (at-start .pre .1 .1 .1 .1 .1 .0) (at-prepare-run .prepare-run .ensures .0) (at-run .run .ensures), (omega (arith, at-start .pre .1 .1 .1 .0 .0, at-start .pre .1 .1 .1 .0 .1 .0), (at-start .pre .1 .1 .0 .0, (at-start .pre .1 .1 .0 .1) .back)))
 
 same-length : tie.Need-same-length
 same-length c = search needs
@@ -75,7 +111,11 @@ same-length-2 : tie.Need-same-length-2
 same-length-2 c = search needs
 
 returns : tie.Need-returns
-returns c = (whole-run _ _ _ _ _ _ _ _ _ _ _ _ _ _ _ _ _ _ _ _ _ _ _ _ _ _ (c .before .before .before .before .before .before .before .before .before .before .before .before .before .before .before .before .before .before .before .before .before .before .before .before .before .before .before .before .before .pre .1 .1 .1 .0 .0) (c .before .before .before .before .before .before .before .before .before .before .before .before .before .before .before .before .before .before .before .before .before .before .before .before .before .before .before .before .before .pre .1 .1 .1 .0 .1 .0) (c .before .before .before .before .before .before .before .before .before .before .before .before .before .before .before .before .before .before .before .before .before .before .before .before .before .before .before .before .before .pre .1 .1 .1 .0 .1 .1) (c .before .before .before .before .before .before .before .before .before .before .before .before .before .before .before .before .before .before .before .before .before .before .before .before .before .before .before .before .before .pre .1 .0 .0) (c .before .before .before .before .before .before .before .before .before .before .before .before .before .before .before .before .before .before .before .before .before .before .before .before .before .before .before .before .before .pre .1 .1 .0 .0) (c .before .before .before .before .before .before .before .before .before .before .before .before .before .before .before .before .before .before .before .before .before .before .before .before .before .before .before .before .before .pre .1 .1 .0 .1) (c .before .before .before .before .before .before .before .before .before .before .before .before .before .before .before .before .before .before .before .before .before .before .before .before .before .before .before .before .before .pre .1 .1 .1 .1 .1 .0) (c .before .before .before .before .before .before .before .before .before .before .before .before .before .before .before .before .before .before .before .prepare-run .ensures .0) (c .before .before .before .before .before .before .before .before .run .ensures) (c .finish-run .ensures), c .before .before .before .before .before .before .before .before .before .before .before .before .before .before .before .before .before .before .before .prepare-run .ensures .1)
+returns c =
+    let at-run = c .before .before .before .before .before .before .before .before in
+    let at-prepare-run = c .before .before .before .before .before .before .before .before .before .before .before .before .before .before .before .before .before .before .before in
+    let at-start = c .before .before .before .before .before .before .before .before .before .before .before .before .before .before .before .before .before .before .before .before .before .before .before .before .before .before .before .before .before in
+    (whole-run _ _ _ _ _ _ _ _ _ _ _ _ _ _ _ _ _ _ _ _ _ _ _ _ _ _ (at-start .pre .1 .1 .1 .0 .0) (at-start .pre .1 .1 .1 .0 .1 .0) (at-start .pre .1 .1 .1 .0 .1 .1) (at-start .pre .1 .0 .0) (at-start .pre .1 .1 .0 .0) (at-start .pre .1 .1 .0 .1) (at-start .pre .1 .1 .1 .1 .1 .0) (at-prepare-run .prepare-run .ensures .0) (at-run .run .ensures) (c .finish-run .ensures), at-prepare-run .prepare-run .ensures .1)
 
 pub run-spec : {M : Type 1} → statement M
 run-spec =
@@ -83,10 +123,10 @@ run-spec =
     (tie.spec
     mul-a
     mul-b
-    mul-begin
-    sub-begin
-    part-begin-start
-    part-begin-end
+    mul-prepare-run
+    sub-prepare-run
+    part-prepare-run-start
+    part-prepare-run-end
     prepare-run-requires
     mul-run
     sub-run
@@ -100,7 +140,7 @@ run-spec =
     part-run-start-3
     part-run-end-3
     run-requires
-    sub-end
+    sub-finish-run
     finish-run-requires
     same-length
     same-length-2

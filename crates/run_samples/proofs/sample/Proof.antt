@@ -5,7 +5,9 @@ use Rattle.run_samples.proofs.sample.Statement.{statement}
 use Rattle.run_samples.proofs.sample.Tie as tie
 
 take-requires : tie.Need-take-requires
-take-requires c κs = (c .before .before .before .before .before .pre .0, (c .before .before .before .before .before .pre .1 .0, c .before .before .before .before .before .pre .1 .1 .0))
+take-requires c κs =
+    let at-start = c .before .before .before .before .before in
+    (at-start .pre .0, (at-start .pre .1 .0, at-start .pre .1 .1 .0))
 
 add-feed : tie.Need-add-feed
 add-feed c = search needs
@@ -17,10 +19,16 @@ with-track-requires : tie.Need-with-track-requires
 with-track-requires c κs = search needs
 
 advance-requires : tie.Need-advance-requires
-advance-requires c κs = track-r4 _ _ _ (c .before .before .before .before .before .before .before .before .before .before .before .before .before .before .pre .1 .1 .1) (c .with-track .ensures)
+advance-requires c κs =
+    let at-start = c .before .before .before .before .before .before .before .before .before .before .before .before .before .before in
+    track-r4 _ _ _ (at-start .pre .1 .1 .1) (c .with-track .ensures)
 
 returns : tie.Need-returns
-returns c = sampled _ _ _ _ _ _ _ _ _ _ _ _ _ _ _ _ _ _ _ _ (c .before .before .before .before .before .before .before .before .before .before .before .before .before .before .before .pre .1 .0 .0) (c .before .before .before .before .before .before .before .before .before .before .before .before .before .before .before .pre .1 .1 .1) (c .before .before .before .before .before .before .before .before .before .take .ensures) (c .before .before .feed .ensures .0) (c .before .before .feed .ensures .1 .0) (c .before .before .feed .ensures .1 .1) (c .before .with-track .ensures) (c .advance .ensures)
+returns c =
+    let at-feed = c .before .before in
+    let at-take = c .before .before .before .before .before .before .before .before .before in
+    let at-start = c .before .before .before .before .before .before .before .before .before .before .before .before .before .before .before in
+    sampled _ _ _ _ _ _ _ _ _ _ _ _ _ _ _ _ _ _ _ _ (at-start .pre .1 .0 .0) (at-start .pre .1 .1 .1) (at-take .take .ensures) (at-feed .feed .ensures .0) (at-feed .feed .ensures .1 .0) (at-feed .feed .ensures .1 .1) (c .before .with-track .ensures) (c .advance .ensures)
 
 pub sample-spec : {M : Type 1} → statement M
 sample-spec =
