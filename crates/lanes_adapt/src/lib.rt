@@ -21,12 +21,14 @@ fn apart(r: f32, m: f32) -> bool
     (r - r) != (m - m)
 }
 
+// The real part of a lane after the step.
 fn step_re(w: f32, l: f32, a: f32, b: f32, gr: f32, gi: f32) -> f32
     ensures { λ r. ⌜ r ≡ laneRe w l a b gr gi ⌝ }
 {
     kept(w - (gr * a + gi * b), l)
 }
 
+// The imaginary part.
 fn step_im(w: f32, l: f32, a: f32, b: f32, gr: f32, gi: f32) -> f32
     ensures { λ r. ⌜ r ≡ laneIm w l a b gr gi ⌝ }
 {
@@ -90,6 +92,7 @@ fn broken(wr: &[f32; 144], wi: &[f32; 144], limit: &[f32; 144], from: usize) -> 
     bad
 }
 
+// +0 for padding, and for each lane where the weights start anew.
 fn clear(v: f32, limit: f32, all: bool) -> f32
     ensures { λ r. ⌜ r ≡ clearOf v limit all ⌝ }
 {

@@ -65,6 +65,7 @@ fn blocks_re(
     }
 }
 
+// The real part of the sum over both halves: the window at `at` and the weights from 0 on, then the window at `bt` and the weights from 72 on.
 pub fn dot_split_re(
     xr: &[f32; 288],
     xi: &[f32; 288],
@@ -123,6 +124,7 @@ fn block_im(
     }
 }
 
+// All blocks of the lanes.
 fn blocks_im(
     acc: &mut [f32; 8],
     xr: &[f32; 288],
@@ -144,6 +146,7 @@ fn blocks_im(
     }
 }
 
+// The imaginary part.
 pub fn dot_split_im(
     xr: &[f32; 288],
     xi: &[f32; 288],

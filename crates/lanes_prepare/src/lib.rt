@@ -65,6 +65,7 @@ fn add16(acc: &mut [f32; 16], q: &[f32; 288], from: usize)
     }
 }
 
+// Stores sixteen sums.
 fn put16(power: &mut [f32; RUN], acc: &[f32; 16], from: usize)
     requires { ⌜ length (now power) ≡ 64 ⌝ }
     requires { ⌜ from + 16 ≤ 64 ⌝ }
@@ -92,6 +93,7 @@ fn tile(power: &mut [f32; RUN], q: &[f32; 288], j: usize, n: usize)
     put16(power, &acc, j);
 }
 
+// The powers of the windows from `from` on.
 pub fn powers(power: &mut [f32; RUN], q: &[f32; 288], from: usize, n: usize)
     requires { ⌜ length (now power) ≡ 64 ⌝ }
     requires { ⌜ (n ≤ 64) × ((from ≤ 64) × (from % 16 ≡ 0)) ⌝ }

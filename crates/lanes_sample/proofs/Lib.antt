@@ -1,4 +1,4 @@
--- ChainLoop: a loop's step. Windows, Representation, Measurement, Sample: one sample, up to `sample-holds`.
+-- ChainLoop: one step of the loop. Windows, Representation, Measurement, Sample: one sample, up to `sample-holds`.
 pub mod ChainLoop
 pub mod Windows
 pub mod Representation

@@ -47,7 +47,7 @@ squares-is n m at xr xi q x h a s w =
           rw p (s .is j l ∙ rw (er, ei));
     }
 
--- ---- step 8: the fed-back sample at at + 8
+-- ---- step 8: the fed-back sample at at + 152
 set-calm : (x : List Float) (i : ℕ) (v : Float) (k : ℕ) → i < length x → T (finite v) → T (finite (getD x k nan)) → Dec (k ≡ i) → T (finite (getD (set x i v) k nan))
 set-calm x i v k l f g (yes e) = rw (e, getD-set-same x i v nan l) f
 set-calm x i v k l f g (no d) = rw (getD-set-other x i k v nan d) g

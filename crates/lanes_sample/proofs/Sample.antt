@@ -1,4 +1,4 @@
--- The exit of `absorb`, and ONE SAMPLE against `sampleDef`. Assumes nothing.
+-- The arrays after the weights' step and the fed-back sample, and ONE SAMPLE against `sampleDef`. Assumes nothing.
 use Prim.Native.Nat.{ℕ, _+_, _-_, _/_, _%_, _≤_}
 use mathlib.Core.Path.{_≡_, refl, sym, _∙_, ap, subst}
 use mathlib.Core.Bool.{Bool, true, false, cond}
@@ -100,7 +100,7 @@ staged-by {n} {m} {p} {a} {q} s ok x h y =
     subst (λ (f : ℕ). Staged q (step3 (q .state) (q .weights) (n + m) f x h y)) (holds-forward s)
     (subst (λ (k : ℕ). Staged q (step3 (q .state) (q .weights) k (forward q) x h y)) (holds-taps s) (staged q ok x h y))
 
--- ONE SAMPLE: arrays that hold an accepted q hold `sampleDef`'s equalizer after `absorb` is given the sample's own update and fed-back sample
+-- ONE SAMPLE: arrays that hold an accepted q hold `sampleDef`'s equalizer after the weights' step and `feed` by the sample's own update and fed-back sample
 pub sample-holds : (n m at lanes more quads mquads front centre : ℕ) (limit : List Float) (a a′ : Arrays) (q : Equalizer) (x : C32) (u : Update) (fed : C32)
     → Accepted q → LaneCounts n m lanes more quads mquads → front ≡ n % 8 → centre ≡ n / 2 → Limits limit 0 0 n → Limits limit 72 (n % 8) m
     → Holds n m (at + 1) a q → Put at x (a .xr) (a .xi)

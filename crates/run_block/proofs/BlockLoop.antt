@@ -14,7 +14,8 @@ use Rattle.lanes.specs.Arrays.{Arrays, Long}
 use Rattle.lanes.specs.Holds.{Holds}
 use Rattle.run_samples.specs.declared.Shape.{Shape}
 use Rattle.run_samples.specs.Sample.{Lanes, Setting}
-use Rattle.run_block.specs.Block.{Room, WholeRun, AllRuns}
+use Rattle.run_block.specs.Block.{AllRuns}
+use Rattle.run_one.specs.WholeRun.{Room, WholeRun}
 use Rattle.run_block.proofs.Part.{progress-run}
 use Rattle.definition_laws.proofs.Progress.{Progress, progress-none, progress-all}
 

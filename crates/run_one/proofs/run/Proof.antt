@@ -1,9 +1,9 @@
 -- `run` passes over the samples i .. e of a block: start, samples and end of one run, joined by `whole-run`.
 use native.Mathlib.Omega.{arith}
-use Rattle.run_block.proofs.WholeRun.{run-fits, finish-fits, whole-run}
+use Rattle.run_one.proofs.Start.{run-fits, finish-fits, whole-run}
 use borrow.Author.Needs.{needs}
-use Rattle.run_block.proofs.run.Statement.{statement}
-use Rattle.run_block.proofs.run.Tie as tie
+use Rattle.run_one.proofs.run.Statement.{statement}
+use Rattle.run_one.proofs.run.Tie as tie
 
 mul-a : tie.Need-mul-a
 mul-a c =

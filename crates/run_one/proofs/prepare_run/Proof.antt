@@ -1,10 +1,10 @@
 -- `prepare_run` puts a run's samples in and makes what depends on them alone: its four calls, joined by `prepared`.
 use mathlib.Core.Path.{_∙_}
-use Rattle.run_block.proofs.WholeRun.{prepared}
+use Rattle.run_one.proofs.Start.{prepared}
 use native.Mathlib.Omega.{arith}
 use borrow.Author.Needs.{needs}
-use Rattle.run_block.proofs.prepare_run.Statement.{statement}
-use Rattle.run_block.proofs.prepare_run.Tie as tie
+use Rattle.run_one.proofs.prepare_run.Statement.{statement}
+use Rattle.run_one.proofs.prepare_run.Tie as tie
 
 sub-first : tie.Need-sub-first
 sub-first c = search needs

@@ -21,7 +21,7 @@ use Rattle.lanes_load.proofs.End.{end-holds}
 use Rattle.run_samples.specs.declared.Shape.{Shape}
 use Rattle.run_samples.specs.Sample.{Fits, Setting}
 use Rattle.run_samples.specs.Run.{RunReady, After, Runs}
-use Rattle.run_block.specs.Block.{Prepared, Finished, WholeRun}
+use Rattle.run_one.specs.WholeRun.{Prepared, Finished, WholeRun}
 
 -- ---- `prepare_run`
 sized-from : (s : EqualizeState) (ps ss : List Float) (from to : ℕ) → from ≤ to → StepSizes s ps from ss → StepSizes s ps to ss

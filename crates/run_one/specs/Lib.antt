@@ -1,0 +1,2 @@
+-- What the functions of one run promise.
+pub mod WholeRun
