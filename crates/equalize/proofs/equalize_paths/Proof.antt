@@ -9,7 +9,7 @@ by-runs-requires c κs = search needs
 equalize-linear-requires : tie.Need-equalize-linear-requires
 equalize-linear-requires c κs = search needs
 
-block-requires : tie.Need-run-requires
+block-requires : tie.Need-block-requires
 block-requires c κs = search needs
 
 same-length : tie.Need-same-length

@@ -13,7 +13,7 @@ enum-told c = search needs
 enum-told-2 : tie.Need-enum-told-2
 enum-told-2 c = search needs
 
-block-requires : tie.Need-run-requires
+block-requires : tie.Need-block-requires
 block-requires c κs = call-shaped _ _ _ _ _ _ _ (c .before .before .before .before .before .before .verdict .ensures) (c .before .before .before .before .enum-told2 .given .1)
 
 same-length : tie.Need-same-length
