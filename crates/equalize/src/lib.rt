@@ -12,12 +12,22 @@ ghost use Rattle.definition.specs.Packed.{equalizer, answered, ServedBlock, Ran
 ghost use Rattle.definition.specs.Run.{runDef};
 ghost use Rattle.definition.specs.Calls.{equalizeDef};
 
-// From this many samples on a block is worth the start of a run.
-const LONG: usize = 8;
-
 // Whether a block of `len` samples over `taps` taps in all goes in runs, or sample by sample: a matter of speed alone, since both give the same.
+// A run has a start to pay, which fewer samples do not earn back the fewer the taps are (docs/PERFORMANCE.md).
 fn by_runs(taps: usize, len: usize) -> bool {
-    len >= LONG
+    if taps < 7 {
+        return len >= 48;
+    }
+    if taps < 24 {
+        return len >= 24;
+    }
+    if taps < 40 {
+        return len >= 16;
+    }
+    if taps < 60 {
+        return len >= 12;
+    }
+    len >= 8
 }
 
 // The samples of an accepted call: the linear path without feedback taps, the joint path with them, both in runs of 64, or the plain path.
