@@ -46,7 +46,7 @@ fn hear(s: EqualizeState, w: &mut [f32], h: &[f32], y: C32, n: usize, f: usize) 
 }
 
 // Steps 2 to 7, over the shifted window.
-fn took(s: EqualizeState, w: &mut [f32], h: &[f32], x: C32, n: usize, f: usize) -> Stage
+fn take(s: EqualizeState, w: &mut [f32], h: &[f32], x: C32, n: usize, f: usize) -> Stage
     requires { ⌜ TapsOf s (now w) (now h) n f ⌝ }
     ensures { λ r. ⌜ stage s r (now (w .exit)) ≡ step3 s (now (w .entry)) n f x (now (h .entry)) (step2 n (now (w .entry)) (now (h .entry))) ⌝ }
 {
@@ -83,7 +83,7 @@ fn sample_sized(
     ensures { λ r. ⌜ did r (now (w .exit)) (now (h .exit)) ≡ sampleDef (equalizer s (now (w .entry)) (now (h .entry))) x ⌝ }
 {
     slices::shift(h, f, sanitize(x));
-    let r = took(s, w, h, x, n, f);
+    let r = take(s, w, h, x, n, f);
     let p = s.params;
     let m = p.feedback_taps;
     let fed = r.fed;

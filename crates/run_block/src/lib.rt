@@ -47,7 +47,7 @@ fn linear_runs(
     let mut s = state;
     let mut i = 0usize;
     while i < marks.len() {
-        let len = lanes_prepare::least(marks.len() - i, 64);
+        let len = lanes_prepare::least(marks.len() - i, lanes::RUN);
         let e = i + len;
         s = run_one::run(
             s,

@@ -28,10 +28,10 @@ fn prepare_run(
     ensures { λ _. ⌜ Prepared s n (now (input .entry)) (now (xr .entry)) (now (xi .entry)) (now (q .entry)) (now (xr .exit)) (now (xi .exit)) (now (q .exit)) (now (power .exit)) (now (steps .exit)) ⌝ }
     ensures { λ _. ⌜ Room (now (power .exit)) (now (steps .exit)) ⌝ }
 {
-    let first = 64 - input.len() / 2;
+    let first = lanes::RUN - input.len() / 2;
     let from = first / 16 * 16;
     lanes_prepare::enter(xr, xi, input);
-    lanes_prepare::squares(q, xr, xi, from, 64 + n);
+    lanes_prepare::squares(q, xr, xi, from, lanes::RUN + n);
     lanes_prepare::powers(power, q, from, n);
     lanes_prepare::sizes(steps, power, s, from);
 }
@@ -50,9 +50,9 @@ fn finish_run(
     ensures { λ _. ⌜ Finished n m (64 - len) (now (xr .entry)) (now (xi .entry)) (now (q .entry))
         (now (xr .exit)) (now (xi .exit)) (now (q .exit)) ⌝ }
 {
-    let first = 64 - len;
-    lanes_load::moved(xr, first, 64, n);
-    lanes_load::moved(xi, first, 64, n);
+    let first = lanes::RUN - len;
+    lanes_load::moved(xr, first, lanes::RUN, n);
+    lanes_load::moved(xi, first, lanes::RUN, n);
     lanes_load::moved(xr, first + 152, 216, m);
     lanes_load::moved(xi, first + 152, 216, m);
     lanes_load::moved(q, first + 152, 216, m);

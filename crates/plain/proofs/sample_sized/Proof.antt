@@ -10,8 +10,8 @@ sanitize-requires c κs = search needs
 shift-requires : tie.Need-shift-requires
 shift-requires c κs = search needs
 
-took-requires : tie.Need-took-requires
-took-requires c κs =
+take-requires : tie.Need-take-requires
+take-requires c κs =
     let at-shift = c .before .before .before .before in
     let at-start = c .before .before .before .before .before .before .before .before .before in
     sized-again _ _ _ _ _ _ (at-start .pre .0) _ (at-shift .shift .ensures)
@@ -44,10 +44,10 @@ returns c =
     let at-start = c .before .before .before .before .before .before .before .before .before .before .before .before .before .before .before .before .before .before .before .before .before .before in
     let at-sanitize = c .before .before .before .before .before .before .before .before .before .before .before .before .before .before .before .before .before .before in
     let at-shift = c .before .before .before .before .before .before .before .before .before .before .before .before .before .before .before .before .before in
-    let at-took = c .before .before .before .before .before .before .before .before .before .before .before .before in
+    let at-take = c .before .before .before .before .before .before .before .before .before .before .before .before in
     let at-feed = c .before .before .before .before .before .before in
     let at-track = c .before in
-    sample-is _ _ _ _ _ _ (at-start .pre .0) _ _ _ _ _ _ _ (at-sanitize .sanitize .ensures) (at-shift .shift .ensures) (at-took .took .ensures) (at-feed .feed .ensures) (at-track .with-track .ensures) (c .advance .ensures)
+    sample-is _ _ _ _ _ _ (at-start .pre .0) _ _ _ _ _ _ _ (at-sanitize .sanitize .ensures) (at-shift .shift .ensures) (at-take .take .ensures) (at-feed .feed .ensures) (at-track .with-track .ensures) (c .advance .ensures)
 
 pub sample-sized-spec : {M : Type 1} → statement M
 sample-sized-spec =
@@ -55,7 +55,7 @@ sample-sized-spec =
     (tie.spec
     sanitize-requires
     shift-requires
-    took-requires
+    take-requires
     feed-requires
     with-track-requires
     advance-requires

@@ -1,9 +1,9 @@
--- `took` is steps 2 to 7: blank, spilled or heard, one law for each.
+-- `take` is steps 2 to 7: blank, spilled or heard, one law for each.
 use borrow.Author.Needs.{needs}
 use borrow.Author.Tests.{not-true, not-false}
 use Rattle.plain.proofs.OneSample.{took-blank, took-spilled, took-heard}
-use Rattle.plain.proofs.took.Statement.{statement}
-use Rattle.plain.proofs.took.Tie as tie
+use Rattle.plain.proofs.take.Statement.{statement}
+use Rattle.plain.proofs.take.Tie as tie
 
 finite-c-requires : tie.Need-finite-c-requires
 finite-c-requires c κs = search needs
@@ -55,8 +55,8 @@ returns-3 c =
     let at-start = c .before .before .before .before .before .before .before .before .before .before .before .before in
     took-heard _ _ _ _ _ _ (at-start .pre) _ (at-finite-c .finite-c .ensures) (not-false _ (at-if1 .if1 .left)) _ (at-dot-complex-c32 .dot-complex-c32 .ensures) _ (at-finite-c2 .finite-c2 .ensures) (not-false _ (at-if2 .if2 .left)) _ (at-hear .hear .ensures)
 
-pub took-spec : {M : Type 1} → statement M
-took-spec =
+pub take-spec : {M : Type 1} → statement M
+take-spec =
     tie.close
     (tie.spec
     finite-c-requires
