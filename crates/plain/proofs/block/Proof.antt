@@ -1,5 +1,6 @@
 -- `block` passes over the samples of a block: the loop's record is `Turns`, the measure what is left of the marks.
 use borrow.Author.Needs.{needs}
+use mathlib.Core.Path.{refl}
 use Prim.Native.Nat.{_-_}
 use native.Mathlib.Omega.{arith}
 use lib.ListN.{length, length-set}
@@ -17,7 +18,9 @@ abbrev μ-loop : tie.MeasureT-loop
     length marks - i
 
 loop-holds : tie.Need-loop-holds Inv-loop μ-loop
-loop-holds c = search turns-none
+loop-holds c =
+    let asked = c .before .before .before .before .before .pre in
+    turns-none _ _ _ _ asked
 
 mul-t15 : tie.Need-mul-t15 Inv-loop μ-loop
 mul-t15 c = search needs
@@ -78,7 +81,12 @@ loop-less : tie.Need-loop-less Inv-loop μ-loop
 loop-less c = simp length-set (omega arith)
 
 loop-again : tie.Need-loop-again Inv-loop μ-loop
-loop-again c = search turns-more
+loop-again c =
+    let at-mark = c .before .mark-number in
+    let at-sample = c .before .before .before .before .before .before .before .sample in
+    let at-test = c .before .before .before .before .before .before .before .before .before .before .before .before .loop-test in
+    let at-loop = c .before .before .before .before .before .before .before .before .before .before .before .before .before .loop in
+    turns-more _ _ _ _ _ _ _ _ _ (at-loop .inv) _ _ _ _ _ (at-test .taken) refl refl (at-sample .ensures) (at-mark .ensures) (search needs) (search needs)
 
 same-length : tie.Need-same-length Inv-loop μ-loop
 same-length c = search needs
@@ -93,7 +101,9 @@ same-length-4 : tie.Need-same-length-4 Inv-loop μ-loop
 same-length-4 c = search needs
 
 returns : tie.Need-returns Inv-loop μ-loop
-returns c = search turns-all
+returns c =
+    let at-loop = c .before .loop in
+    turns-all _ _ _ _ _ _ _ _ _ (at-loop .inv) (c .loop-test .left)
 
 pub block-spec : {M : Type 1} → statement M
 block-spec =

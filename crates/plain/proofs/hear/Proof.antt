@@ -32,7 +32,13 @@ same-length c = search needs
 
 returns : tie.Need-returns
 returns c =
-    search heard-by
+    let at-powers = c .before .before .before .before .before .before .before .before .window-power in
+    let at-whole = c .before .before .before .before .before .before .before .window-power2 in
+    let at-size = c .before .before .before .before .before .before .size-of in
+    let at-turn = c .before .before .before .before .before .before .before .before .before .interp-f32-pair in
+    let at-step = c .before .before .before .before .before .step in
+    let at-update = c .before .before .before .update-weights in
+    heard-by _ _ _ _ _ _ _ _ _ _ _ _ _ (at-powers .ensures) (at-whole .ensures) (at-size .ensures) (at-turn .ensures .1) (at-step .ensures) (at-update .ensures) (c .heard .ensures)
 
 pub hear-spec : {M : Type 1} → statement M
 hear-spec =

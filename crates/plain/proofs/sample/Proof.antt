@@ -10,8 +10,8 @@ sub-f c = let a = accepted-sized _ _ _ (c .before .before .before .before .pre) 
 
 sample-sized-requires : tie.Need-sample-sized-requires
 sample-sized-requires c κs =
-    let at-start = c .before .before .before .before .before .before in
-    (accepted-sized _ _ _ (at-start .pre), accepted-r4 _ _ _ (at-start .pre))
+    let asked = c .before .before .before .before .before .before .pre in
+    (accepted-sized _ _ _ (asked), accepted-r4 _ _ _ (asked))
 
 same-length : tie.Need-same-length
 same-length c = search needs
@@ -20,7 +20,7 @@ same-length-2 : tie.Need-same-length-2
 same-length-2 c = search needs
 
 returns : tie.Need-returns
-returns c = search needs
+returns c = c .before .before .before .before .sample-sized .ensures
 
 pub sample-spec : {M : Type 1} → statement M
 sample-spec = tie.close (tie.spec sub-f sample-sized-requires same-length same-length-2 returns)

@@ -12,42 +12,42 @@ shift-requires c κs = search needs
 
 take-requires : tie.Need-take-requires
 take-requires c κs =
-    let at-shift = c .before .before .before .before in
-    let at-start = c .before .before .before .before .before .before .before .before .before in
-    sized-again _ _ _ _ _ _ (at-start .pre .0) _ (at-shift .shift .ensures)
+    let at-shift = c .before .before .before .before .shift in
+    let asked = c .before .before .before .before .before .before .before .before .before .pre in
+    sized-again _ _ _ _ _ _ (asked .0) _ (at-shift .ensures)
 
 feed-requires : tie.Need-feed-requires
 feed-requires c κs =
-    let at-shift = c .before .before .before .before .before .before .before .before .before .before in
-    let at-start = c .before .before .before .before .before .before .before .before .before .before .before .before .before .before .before in
-    feed-fits _ _ _ _ _ _ _ (at-start .pre .0) (at-shift .shift .ensures)
+    let at-shift = c .before .before .before .before .before .before .before .before .before .before .shift in
+    let asked = c .before .before .before .before .before .before .before .before .before .before .before .before .before .before .before .pre in
+    feed-fits _ _ _ _ _ _ _ (asked .0) (at-shift .ensures)
 
 with-track-requires : tie.Need-with-track-requires
 with-track-requires c κs = search needs
 
 advance-requires : tie.Need-advance-requires
 advance-requires c κs =
-    let at-start = c .before .before .before .before .before .before .before .before .before .before .before .before .before .before .before .before .before .before .before .before .before in
-    tracked-r4 _ _ _ (at-start .pre .1) (c .with-track .ensures)
+    let asked = c .before .before .before .before .before .before .before .before .before .before .before .before .before .before .before .before .before .before .before .before .before .pre in
+    tracked-r4 _ _ _ (asked .1) (c .with-track .ensures)
 
 same-length : tie.Need-same-length
 same-length c = search needs
 
 same-length-2 : tie.Need-same-length-2
 same-length-2 c =
-    let at-feed = c .before .before .before .before .before in
-    let at-shift = c .before .before .before .before .before .before .before .before .before .before .before .before .before .before .before .before in
-    search (needs, at-feed .h2, at-shift .h)
+    let at-h2 = c .before .before .before .before .before .h2 in
+    let at-h = c .before .before .before .before .before .before .before .before .before .before .before .before .before .before .before .before .h in
+    search (needs, at-h2, at-h)
 
 returns : tie.Need-returns
 returns c =
-    let at-start = c .before .before .before .before .before .before .before .before .before .before .before .before .before .before .before .before .before .before .before .before .before .before in
-    let at-sanitize = c .before .before .before .before .before .before .before .before .before .before .before .before .before .before .before .before .before .before in
-    let at-shift = c .before .before .before .before .before .before .before .before .before .before .before .before .before .before .before .before .before in
-    let at-take = c .before .before .before .before .before .before .before .before .before .before .before .before in
-    let at-feed = c .before .before .before .before .before .before in
-    let at-track = c .before in
-    sample-is _ _ _ _ _ _ (at-start .pre .0) _ _ _ _ _ _ _ (at-sanitize .sanitize .ensures) (at-shift .shift .ensures) (at-take .take .ensures) (at-feed .feed .ensures) (at-track .with-track .ensures) (c .advance .ensures)
+    let asked = c .before .before .before .before .before .before .before .before .before .before .before .before .before .before .before .before .before .before .before .before .before .before .pre in
+    let at-sanitize = c .before .before .before .before .before .before .before .before .before .before .before .before .before .before .before .before .before .before .sanitize in
+    let at-shift = c .before .before .before .before .before .before .before .before .before .before .before .before .before .before .before .before .before .shift in
+    let at-take = c .before .before .before .before .before .before .before .before .before .before .before .before .take in
+    let at-feed = c .before .before .before .before .before .before .feed in
+    let at-with-track = c .before .with-track in
+    sample-is _ _ _ _ _ _ (asked .0) _ _ _ _ _ _ _ (at-sanitize .ensures) (at-shift .ensures) (at-take .ensures) (at-feed .ensures) (at-with-track .ensures) (c .advance .ensures)
 
 pub sample-sized-spec : {M : Type 1} → statement M
 sample-sized-spec =

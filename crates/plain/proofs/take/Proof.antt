@@ -13,9 +13,9 @@ unheard-requires c κs = search needs
 
 returns : tie.Need-returns
 returns c =
-    let at-finite-c = c .before .before in
-    let at-start = c .before .before .before .before .before in
-    took-blank _ _ _ _ _ _ (at-start .pre) _ (at-finite-c .finite-c .ensures) (not-true _ (c .before .if1 .taken)) _ (c .unheard .ensures)
+    let at-finite-c = c .before .before .finite-c in
+    let asked = c .before .before .before .before .before .pre in
+    took-blank _ _ _ _ _ _ (asked) _ (at-finite-c .ensures) (not-true _ (c .before .if1 .taken)) _ (c .unheard .ensures)
 
 dot-complex-c32-requires : tie.Need-dot-complex-c32-requires
 dot-complex-c32-requires c κs = search needs
@@ -31,12 +31,12 @@ same-length c = search needs
 
 returns-2 : tie.Need-returns-2
 returns-2 c =
-    let at-finite-c2 = c .before .before in
-    let at-dot-complex-c32 = c .before .before .before in
-    let at-if1 = c .before .before .before .before .before in
-    let at-finite-c = c .before .before .before .before .before .before in
-    let at-start = c .before .before .before .before .before .before .before .before .before in
-    took-spilled _ _ _ _ _ _ (at-start .pre) _ (at-finite-c .finite-c .ensures) (not-false _ (at-if1 .if1 .left)) _ (at-dot-complex-c32 .dot-complex-c32 .ensures) _ (at-finite-c2 .finite-c2 .ensures) (not-true _ (c .before .if2 .taken)) _ (c .unheard2 .ensures)
+    let at-finite-c2 = c .before .before .finite-c2 in
+    let at-dot-complex-c32 = c .before .before .before .dot-complex-c32 in
+    let at-if1 = c .before .before .before .before .before .if1 in
+    let at-finite-c = c .before .before .before .before .before .before .finite-c in
+    let asked = c .before .before .before .before .before .before .before .before .before .pre in
+    took-spilled _ _ _ _ _ _ (asked) _ (at-finite-c .ensures) (not-false _ (at-if1 .left)) _ (at-dot-complex-c32 .ensures) _ (at-finite-c2 .ensures) (not-true _ (c .before .if2 .taken)) _ (c .unheard2 .ensures)
 
 hear-requires : tie.Need-hear-requires
 hear-requires c κs = search needs
@@ -46,14 +46,14 @@ same-length-2 c = search needs
 
 returns-3 : tie.Need-returns-3
 returns-3 c =
-    let at-hear = c .before .before in
-    let at-if2 = c .before .before .before .before in
-    let at-finite-c2 = c .before .before .before .before .before in
-    let at-dot-complex-c32 = c .before .before .before .before .before .before in
-    let at-if1 = c .before .before .before .before .before .before .before .before in
-    let at-finite-c = c .before .before .before .before .before .before .before .before .before in
-    let at-start = c .before .before .before .before .before .before .before .before .before .before .before .before in
-    took-heard _ _ _ _ _ _ (at-start .pre) _ (at-finite-c .finite-c .ensures) (not-false _ (at-if1 .if1 .left)) _ (at-dot-complex-c32 .dot-complex-c32 .ensures) _ (at-finite-c2 .finite-c2 .ensures) (not-false _ (at-if2 .if2 .left)) _ (at-hear .hear .ensures)
+    let at-hear = c .before .before .hear in
+    let at-if2 = c .before .before .before .before .if2 in
+    let at-finite-c2 = c .before .before .before .before .before .finite-c2 in
+    let at-dot-complex-c32 = c .before .before .before .before .before .before .dot-complex-c32 in
+    let at-if1 = c .before .before .before .before .before .before .before .before .if1 in
+    let at-finite-c = c .before .before .before .before .before .before .before .before .before .finite-c in
+    let asked = c .before .before .before .before .before .before .before .before .before .before .before .before .pre in
+    took-heard _ _ _ _ _ _ (asked) _ (at-finite-c .ensures) (not-false _ (at-if1 .left)) _ (at-dot-complex-c32 .ensures) _ (at-finite-c2 .ensures) (not-false _ (at-if2 .left)) _ (at-hear .ensures)
 
 pub take-spec : {M : Type 1} → statement M
 take-spec =

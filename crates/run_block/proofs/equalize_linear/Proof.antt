@@ -9,8 +9,8 @@ use Rattle.run_block.proofs.equalize_linear.Tie as tie
 
 sub-n : tie.Need-sub-n
 sub-n c =
-    let at-start = c .before .before .before .before .before .before .before in
-    omega (arith, feedback-fits _ _ _ _ _ _ (at-start .pre))
+    let asked = c .before .before .before .before .before .before .before .pre in
+    omega (arith, feedback-fits _ _ _ _ _ _ (asked))
 
 linear-state-requires : tie.Need-linear-state-requires
 unfolding cosBits

@@ -18,8 +18,8 @@ abbrev μ-loop : tie.MeasureT-loop
 
 loop-holds : tie.Need-loop-holds Inv-loop μ-loop
 loop-holds c =
-    let at-start = c .before .before .before in
-    loop-none _ _ _ _ _ _ _ _ _ _ (at-start .pre .1 .1 .1 .0) (at-start .pre .1 .1 .1 .1 .0) (record { ps-long = simp length-replicate; ss-long = simp length-replicate }) (at-start .pre .1 .1 .1 .1 .1) (at-start .pre .1 .0 .0) (at-start .pre .1 .0 .1)
+    let asked = c .before .before .before .pre in
+    loop-none _ _ _ _ _ _ _ _ _ _ (asked .1 .1 .1 .0) (asked .1 .1 .1 .1 .0) (record { ps-long = simp length-replicate; ss-long = simp length-replicate }) (asked .1 .1 .1 .1 .1) (asked .1 .0 .0) (asked .1 .0 .1)
 
 sub-least : tie.Need-sub-least Inv-loop μ-loop
 sub-least c = omega (arith, c .before .loop .inv .here, c .before .loop .inv .input, c .loop-test .taken)
@@ -29,33 +29,33 @@ least-requires c κs = search needs
 
 add-e : tie.Need-add-e Inv-loop μ-loop
 add-e c =
-    let at-loop = c .before .before in
-    let at-start = c .before .before .before .before .before .before in
-    omega (arith, at-loop .loop .inv .here, at-loop .loop .inv .input, c .before .loop-test .taken, c .least .ensures, at-start .good .1 .1 .1 .1 .1 .1 .1 .1 .1 .1 .1 .1 .0 .0)
+    let at-loop = c .before .before .loop in
+    let good = c .before .before .before .before .before .before .good in
+    omega (arith, at-loop .inv .here, at-loop .inv .input, c .before .loop-test .taken, c .least .ensures, good .1 .1 .1 .1 .1 .1 .1 .1 .1 .1 .1 .1 .0 .0)
 
 run-requires : tie.Need-run-requires Inv-loop μ-loop
 run-requires c κs =
-    let at-least = c .before .before .before .before .before .before .before .before .before in
-    let in-loop = c .before .before .before .before .before .before .before .before .before .before in
-    let at-loop = c .before .before .before .before .before .before .before .before .before .before .before in
-    let at-start = c .before .before .before .before .before .before .before .before .before .before .before .before .before .before .before in
-    (at-start .pre .0, ((at-loop .loop .inv .input, at-loop .loop .inv .output), (at-start .pre .1 .1 .0, ((omega arith, (omega (arith, at-least .least .ensures), omega (arith, at-loop .loop .inv .here, at-loop .loop .inv .input, in-loop .loop-test .taken, at-least .least .ensures))), (at-loop .loop .inv .lanes, (at-loop .loop .inv .long, (at-loop .loop .inv .room, at-loop .loop .inv .counts)))))))
+    let at-least = c .before .before .before .before .before .before .before .before .before .least in
+    let at-test = c .before .before .before .before .before .before .before .before .before .before .loop-test in
+    let at-loop = c .before .before .before .before .before .before .before .before .before .before .before .loop in
+    let asked = c .before .before .before .before .before .before .before .before .before .before .before .before .before .before .before .pre in
+    (asked .0, ((at-loop .inv .input, at-loop .inv .output), (asked .1 .1 .0, ((omega arith, (omega (arith, at-least .ensures), omega (arith, at-loop .inv .here, at-loop .inv .input, at-test .taken, at-least .ensures))), (at-loop .inv .lanes, (at-loop .inv .long, (at-loop .inv .room, at-loop .inv .counts)))))))
 
 loop-less : tie.Need-loop-less Inv-loop μ-loop
 loop-less c =
-    let at-run = c .before .before .before .before in
-    let at-least = c .before .before .before .before .before .before .before .before .before .before .before .before .before .before in
-    let in-loop = c .before .before .before .before .before .before .before .before .before .before .before .before .before .before .before in
-    let at-loop = c .before .before .before .before .before .before .before .before .before .before .before .before .before .before .before .before in
-    omega (arith, at-loop .loop .inv .here, at-loop .loop .inv .input, in-loop .loop-test .taken, at-least .least .ensures, at-run .run .kept .1 .1 .1 .1 .1 .1 .1 .1 .1 .1 .1 .1 .1 .1 .0)
+    let at-run = c .before .before .before .before .run in
+    let at-least = c .before .before .before .before .before .before .before .before .before .before .before .before .before .before .least in
+    let at-test = c .before .before .before .before .before .before .before .before .before .before .before .before .before .before .before .loop-test in
+    let at-loop = c .before .before .before .before .before .before .before .before .before .before .before .before .before .before .before .before .loop in
+    omega (arith, at-loop .inv .here, at-loop .inv .input, at-test .taken, at-least .ensures, at-run .kept .1 .1 .1 .1 .1 .1 .1 .1 .1 .1 .1 .1 .1 .1 .0)
 
 loop-again : tie.Need-loop-again Inv-loop μ-loop
 loop-again c =
-    let at-run = c .before .before .before .before in
-    let at-least = c .before .before .before .before .before .before .before .before .before .before .before .before .before .before in
-    let in-loop = c .before .before .before .before .before .before .before .before .before .before .before .before .before .before .before in
-    let at-loop = c .before .before .before .before .before .before .before .before .before .before .before .before .before .before .before .before in
-    loop-more _ _ _ _ _ _ _ _ _ _ _ _ _ _ _ (at-loop .loop .inv) _ _ _ _ _ _ _ (omega arith) (omega (arith, at-loop .loop .inv .here, at-loop .loop .inv .input, in-loop .loop-test .taken, at-least .least .ensures)) (at-run .run .kept .1 .1 .1 .1 .1 .1 .1 .1 .1 .1 .1 .1 .1 .0) (at-run .run .kept .1 .1 .1 .1 .1 .1 .1 .1 .1 .1 .1 .1 .1 .1 .0) (at-run .run .ensures .0) (at-run .run .ensures .1)
+    let at-run = c .before .before .before .before .run in
+    let at-least = c .before .before .before .before .before .before .before .before .before .before .before .before .before .before .least in
+    let at-test = c .before .before .before .before .before .before .before .before .before .before .before .before .before .before .before .loop-test in
+    let at-loop = c .before .before .before .before .before .before .before .before .before .before .before .before .before .before .before .before .loop in
+    loop-more _ _ _ _ _ _ _ _ _ _ _ _ _ _ _ (at-loop .inv) _ _ _ _ _ _ _ (omega arith) (omega (arith, at-loop .inv .here, at-loop .inv .input, at-test .taken, at-least .ensures)) (at-run .kept .1 .1 .1 .1 .1 .1 .1 .1 .1 .1 .1 .1 .1 .0) (at-run .kept .1 .1 .1 .1 .1 .1 .1 .1 .1 .1 .1 .1 .1 .1 .0) (at-run .ensures .0) (at-run .ensures .1)
 
 same-length : tie.Need-same-length Inv-loop μ-loop
 same-length c = c .before .loop .inv .long-ys

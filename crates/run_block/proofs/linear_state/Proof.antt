@@ -7,28 +7,28 @@ use Rattle.run_block.proofs.linear_state.Tie as tie
 
 shape-of-requires : tie.Need-shape-of-requires
 shape-of-requires c κs =
-    let at-start = c .before .before .before .before .before in
-    asked-shape _ _ _ _ _ _ _ _ (at-start .pre .1)
+    let asked = c .before .before .before .before .before .pre in
+    asked-shape _ _ _ _ _ _ _ _ (asked .1)
 
 limits-requires : tie.Need-limits-requires
 limits-requires c κs = search needs
 
 load-linear-requires : tie.Need-load-linear-requires
 load-linear-requires c κs =
-    let at-start = c .before .before .before .before .before .before .before .before .before .before .before .before .before .before in
-    (asked-long _ _ _ _ _ _ _ _ (at-start .pre .1), (asked-shape _ _ _ _ _ _ _ _ (at-start .pre .1) .1, record { wr = refl; wi = refl; xr = refl; xi = refl; q = refl }))
+    let asked = c .before .before .before .before .before .before .before .before .before .before .before .before .before .before .pre in
+    (asked-long _ _ _ _ _ _ _ _ (asked .1), (asked-shape _ _ _ _ _ _ _ _ (asked .1) .1, record { wr = refl; wi = refl; xr = refl; xi = refl; q = refl }))
 
 linear-runs-requires : tie.Need-linear-runs-requires
 linear-runs-requires c κs =
-    let at-load-linear = c .before .before .before .before .before .before .before .before in
-    let at-shape-of = c .before .before .before .before .before .before .before .before .before .before .before .before .before .before .before .before .before in
-    let at-start = c .before .before .before .before .before .before .before .before .before .before .before .before .before .before .before .before .before .before .before .before .before .before .before in
-    (at-start .pre .0, ((at-start .pre .1 .shaped .input, at-start .pre .1 .shaped .output), ((asked-shape _ _ _ _ _ _ _ _ (at-start .pre .1) .1 .0, at-shape-of .shape-of .ensures .fits), (at-load-linear .load-linear .ensures .lanes, (at-load-linear .load-linear .ensures .long, asked-r4 _ _ _ _ _ _ _ _ (at-start .pre .1))))))
+    let at-load-linear = c .before .before .before .before .before .before .before .before .load-linear in
+    let at-shape-of = c .before .before .before .before .before .before .before .before .before .before .before .before .before .before .before .before .before .shape-of in
+    let asked = c .before .before .before .before .before .before .before .before .before .before .before .before .before .before .before .before .before .before .before .before .before .before .before .pre in
+    (asked .0, ((asked .1 .shaped .input, asked .1 .shaped .output), ((asked-shape _ _ _ _ _ _ _ _ (asked .1) .1 .0, at-shape-of .ensures .fits), (at-load-linear .ensures .lanes, (at-load-linear .ensures .long, asked-r4 _ _ _ _ _ _ _ _ (asked .1))))))
 
 store-linear-requires : tie.Need-store-linear-requires
 store-linear-requires c κs =
-    let at-start = c .before .before .before .before .before .before .before .before .before .before .before .before .before .before .before .before .before .before .before .before .before .before .before .before .before .before .before .before .before .before .before .before .before .before in
-    (asked-long _ _ _ _ _ _ _ _ (at-start .pre .1), asked-shape _ _ _ _ _ _ _ _ (at-start .pre .1) .1)
+    let asked = c .before .before .before .before .before .before .before .before .before .before .before .before .before .before .before .before .before .before .before .before .before .before .before .before .before .before .before .before .before .before .before .before .before .before .pre in
+    (asked-long _ _ _ _ _ _ _ _ (asked .1), asked-shape _ _ _ _ _ _ _ _ (asked .1) .1)
 
 same-length : tie.Need-same-length
 same-length c = search needs
@@ -44,13 +44,13 @@ same-length-4 c = search needs
 
 returns : tie.Need-returns
 returns c =
-    let at-store-linear = c .before .before .before .before in
-    let at-linear-runs = c .before .before .before .before .before .before .before .before .before .before .before .before .before .before .before in
-    let at-load-linear = c .before .before .before .before .before .before .before .before .before .before .before .before .before .before .before .before .before .before .before .before .before .before .before .before in
-    let at-limits = c .before .before .before .before .before .before .before .before .before .before .before .before .before .before .before .before .before .before .before .before .before .before .before .before .before .before .before .before .before .before .before .before in
-    let at-shape-of = c .before .before .before .before .before .before .before .before .before .before .before .before .before .before .before .before .before .before .before .before .before .before .before .before .before .before .before .before .before .before .before .before .before in
-    let at-start = c .before .before .before .before .before .before .before .before .before .before .before .before .before .before .before .before .before .before .before .before .before .before .before .before .before .before .before .before .before .before .before .before .before .before .before .before .before .before .before in
-    call-is _ _ _ _ _ _ _ _ _ _ _ _ _ _ _ _ _ _ _ _ _ (at-start .pre .1) (at-shape-of .shape-of .ensures) (at-limits .limits .ensures) (at-load-linear .load-linear .ensures) (at-linear-runs .linear-runs .ensures) (at-store-linear .store-linear .ensures)
+    let at-store-linear = c .before .before .before .before .store-linear in
+    let at-linear-runs = c .before .before .before .before .before .before .before .before .before .before .before .before .before .before .before .linear-runs in
+    let at-load-linear = c .before .before .before .before .before .before .before .before .before .before .before .before .before .before .before .before .before .before .before .before .before .before .before .before .load-linear in
+    let at-limits = c .before .before .before .before .before .before .before .before .before .before .before .before .before .before .before .before .before .before .before .before .before .before .before .before .before .before .before .before .before .before .before .before .limits in
+    let at-shape-of = c .before .before .before .before .before .before .before .before .before .before .before .before .before .before .before .before .before .before .before .before .before .before .before .before .before .before .before .before .before .before .before .before .before .shape-of in
+    let asked = c .before .before .before .before .before .before .before .before .before .before .before .before .before .before .before .before .before .before .before .before .before .before .before .before .before .before .before .before .before .before .before .before .before .before .before .before .before .before .before .pre in
+    call-is _ _ _ _ _ _ _ _ _ _ _ _ _ _ _ _ _ _ _ _ _ (asked .1) (at-shape-of .ensures) (at-limits .ensures) (at-load-linear .ensures) (at-linear-runs .ensures) (at-store-linear .ensures)
 
 pub linear-state-spec : {M : Type 1} → statement M
 linear-state-spec =

@@ -29,11 +29,11 @@ sizes-requires c κs = search needs
 
 returns : tie.Need-returns
 returns c =
-    let at-powers = c .before .before .before in
-    let at-squares = c .before .before .before .before .before .before in
-    let at-enter = c .before .before .before .before .before .before .before .before .before .before in
-    let at-start = c .before .before .before .before .before .before .before .before .before .before .before .before .before .before in
-    (prepared _ _ _ _ _ _ _ _ _ _ _ _ _ (omega arith) (at-enter .enter .ensures) (at-squares .squares .ensures) (at-powers .powers .ensures) (c .sizes .ensures .0), record { ps-long = at-powers .powers .ensures .long ∙ at-start .pre .1 .0 .ps-long; ss-long = c .sizes .ensures .1 })
+    let at-powers = c .before .before .before .powers in
+    let at-squares = c .before .before .before .before .before .before .squares in
+    let at-enter = c .before .before .before .before .before .before .before .before .before .before .enter in
+    let asked = c .before .before .before .before .before .before .before .before .before .before .before .before .before .before .pre in
+    (prepared _ _ _ _ _ _ _ _ _ _ _ _ _ (omega arith) (at-enter .ensures) (at-squares .ensures) (at-powers .ensures) (c .sizes .ensures .0), record { ps-long = at-powers .ensures .long ∙ asked .1 .0 .ps-long; ss-long = c .sizes .ensures .1 })
 
 pub prepare-run-spec : {M : Type 1} → statement M
 prepare-run-spec =

@@ -21,9 +21,9 @@ heard-requires c κs = search needs
 
 returns : tie.Need-returns
 returns c =
-    let at-update = c .before in
-    let at-follow = c .before .before .before .before in
-    (heard-exit _ _ _ (at-follow .follow .ensures) (c .heard .ensures), (adapts-exit _ _ _ _ _ _ _ _ _ _ _ _ _ _ (at-follow .follow .ensures) (at-update .update-split .ensures .0), lanes-exit _ _ (at-update .update-split .ensures .1)))
+    let at-update-split = c .before .update-split in
+    let at-follow = c .before .before .before .before .follow in
+    (heard-exit _ _ _ (at-follow .ensures) (c .heard .ensures), (adapts-exit _ _ _ _ _ _ _ _ _ _ _ _ _ _ (at-follow .ensures) (at-update-split .ensures .0), lanes-exit _ _ (at-update-split .ensures .1)))
 
 pub hear-spec : {M : Type 1} → statement M
 hear-spec = tie.close (tie.spec add-bt sub-bt follow-requires update-split-requires heard-requires returns)

@@ -18,8 +18,8 @@ abbrev μ-loop : tie.MeasureT-loop
 
 loop-holds : tie.Need-loop-holds Inv-loop μ-loop
 loop-holds c =
-    let at-start = c .before .before .before in
-    loop-none _ _ _ _ _ _ _ _ _ (at-start .pre .1 .1 .1 .0) (at-start .pre .1 .1 .1 .1) (at-start .pre .1 .0 .0) (at-start .pre .1 .0 .1 .0) (at-start .pre .1 .0 .1 .1)
+    let asked = c .before .before .before .pre in
+    loop-none _ _ _ _ _ _ _ _ _ (asked .1 .1 .1 .0) (asked .1 .1 .1 .1) (asked .1 .0 .0) (asked .1 .0 .1 .0) (asked .1 .0 .1 .1)
 
 sub-at : tie.Need-sub-at Inv-loop μ-loop
 sub-at c = search needs
@@ -56,39 +56,39 @@ element-copy-out-sample-2 c = search needs
 
 sample-requires : tie.Need-sample-requires Inv-loop μ-loop
 sample-requires c κs =
-    let at-loop = c .before .before .before .before .before .before .before .before .before .before in
-    let at-start = c .before .before .before .before .before .before .before .before .before .before .before .before .before .before in
-    (at-start .pre .0, ((omega arith, at-start .pre .1 .1 .0), (at-loop .loop .inv .lanes, at-loop .loop .inv .counts)))
+    let at-loop = c .before .before .before .before .before .before .before .before .before .before .loop in
+    let asked = c .before .before .before .before .before .before .before .before .before .before .before .before .before .before .pre in
+    (asked .0, ((omega arith, asked .1 .1 .0), (at-loop .inv .lanes, at-loop .inv .counts)))
 
 mul-output : tie.Need-mul-output Inv-loop μ-loop
 mul-output c =
-    let in-loop = c .before .before .before .before .before .before .before .before .before .before .before in
-    let at-loop = c .before .before .before .before .before .before .before .before .before .before .before .before in
-    omega (arith, at-loop .loop .inv .here, at-loop .loop .inv .most, at-loop .loop .inv .input, at-loop .loop .inv .output, in-loop .loop-test .taken)
+    let at-test = c .before .before .before .before .before .before .before .before .before .before .before .loop-test in
+    let at-loop = c .before .before .before .before .before .before .before .before .before .before .before .before .loop in
+    omega (arith, at-loop .inv .here, at-loop .inv .most, at-loop .inv .input, at-loop .inv .output, at-test .taken)
 
 slice-write-output : tie.Need-slice-write-output Inv-loop μ-loop
 slice-write-output c =
-    let in-loop = c .before .before .before .before .before .before .before .before .before .before .before in
-    let at-loop = c .before .before .before .before .before .before .before .before .before .before .before .before in
-    omega (arith, at-loop .loop .inv .here, at-loop .loop .inv .most, at-loop .loop .inv .input, at-loop .loop .inv .output, in-loop .loop-test .taken)
+    let at-test = c .before .before .before .before .before .before .before .before .before .before .before .loop-test in
+    let at-loop = c .before .before .before .before .before .before .before .before .before .before .before .before .loop in
+    omega (arith, at-loop .inv .here, at-loop .inv .most, at-loop .inv .input, at-loop .inv .output, at-test .taken)
 
 add-output : tie.Need-add-output Inv-loop μ-loop
 add-output c =
-    let in-loop = c .before .before .before .before .before .before .before .before .before .before .before in
-    let at-loop = c .before .before .before .before .before .before .before .before .before .before .before .before in
-    omega (arith, at-loop .loop .inv .here, at-loop .loop .inv .most, at-loop .loop .inv .input, at-loop .loop .inv .output, in-loop .loop-test .taken)
+    let at-test = c .before .before .before .before .before .before .before .before .before .before .before .loop-test in
+    let at-loop = c .before .before .before .before .before .before .before .before .before .before .before .before .loop in
+    omega (arith, at-loop .inv .here, at-loop .inv .most, at-loop .inv .input, at-loop .inv .output, at-test .taken)
 
 mul-output-2 : tie.Need-mul-output-2 Inv-loop μ-loop
 mul-output-2 c =
-    let in-loop = c .before .before .before .before .before .before .before .before .before .before .before in
-    let at-loop = c .before .before .before .before .before .before .before .before .before .before .before .before in
-    omega (arith, at-loop .loop .inv .here, at-loop .loop .inv .most, at-loop .loop .inv .input, at-loop .loop .inv .output, in-loop .loop-test .taken)
+    let at-test = c .before .before .before .before .before .before .before .before .before .before .before .loop-test in
+    let at-loop = c .before .before .before .before .before .before .before .before .before .before .before .before .loop in
+    omega (arith, at-loop .inv .here, at-loop .inv .most, at-loop .inv .input, at-loop .inv .output, at-test .taken)
 
 slice-write-output-2 : tie.Need-slice-write-output-2 Inv-loop μ-loop
 slice-write-output-2 c =
-    let in-loop = c .before .before .before .before .before .before .before .before .before .before .before in
-    let at-loop = c .before .before .before .before .before .before .before .before .before .before .before .before in
-    simp length-set (omega (arith, at-loop .loop .inv .here, at-loop .loop .inv .most, at-loop .loop .inv .input, at-loop .loop .inv .output, in-loop .loop-test .taken))
+    let at-test = c .before .before .before .before .before .before .before .before .before .before .before .loop-test in
+    let at-loop = c .before .before .before .before .before .before .before .before .before .before .before .before .loop in
+    simp length-set (omega (arith, at-loop .inv .here, at-loop .inv .most, at-loop .inv .input, at-loop .inv .output, at-test .taken))
 
 mark-number-requires : tie.Need-mark-number-requires Inv-loop μ-loop
 mark-number-requires c κs = search needs
@@ -98,23 +98,23 @@ slice-write-marks c = search needs
 
 add-k : tie.Need-add-k Inv-loop μ-loop
 add-k c =
-    let in-loop = c .before .before .before .before .before .before .before .before .before .before .before .before .before in
-    let at-loop = c .before .before .before .before .before .before .before .before .before .before .before .before .before .before in
-    omega (arith, at-loop .loop .inv .here, at-loop .loop .inv .most, at-loop .loop .inv .input, at-loop .loop .inv .output, in-loop .loop-test .taken)
+    let at-test = c .before .before .before .before .before .before .before .before .before .before .before .before .before .loop-test in
+    let at-loop = c .before .before .before .before .before .before .before .before .before .before .before .before .before .before .loop in
+    omega (arith, at-loop .inv .here, at-loop .inv .most, at-loop .inv .input, at-loop .inv .output, at-test .taken)
 
 loop-less : tie.Need-loop-less Inv-loop μ-loop
 loop-less c =
-    let in-loop = c .before .before .before .before .before .before .before .before .before .before .before .before .before in
-    let at-loop = c .before .before .before .before .before .before .before .before .before .before .before .before .before .before in
-    simp length-set (omega (arith, at-loop .loop .inv .here, at-loop .loop .inv .most, at-loop .loop .inv .input, at-loop .loop .inv .output, in-loop .loop-test .taken))
+    let at-test = c .before .before .before .before .before .before .before .before .before .before .before .before .before .loop-test in
+    let at-loop = c .before .before .before .before .before .before .before .before .before .before .before .before .before .before .loop in
+    simp length-set (omega (arith, at-loop .inv .here, at-loop .inv .most, at-loop .inv .input, at-loop .inv .output, at-test .taken))
 
 loop-again : tie.Need-loop-again Inv-loop μ-loop
 loop-again c =
-    let at-mark = c .before in
-    let at-sample = c .before .before .before in
-    let in-loop = c .before .before .before .before .before .before .before .before .before .before .before .before .before in
-    let at-loop = c .before .before .before .before .before .before .before .before .before .before .before .before .before .before in
-    loop-more _ _ _ _ _ _ _ _ _ _ _ _ _ _ (at-loop .loop .inv) _ _ _ (in-loop .loop-test .taken) (at-mark .mark-number .ensures) (at-sample .sample .ensures)
+    let at-mark-number = c .before .mark-number in
+    let at-sample = c .before .before .before .sample in
+    let at-test = c .before .before .before .before .before .before .before .before .before .before .before .before .before .loop-test in
+    let at-loop = c .before .before .before .before .before .before .before .before .before .before .before .before .before .before .loop in
+    loop-more _ _ _ _ _ _ _ _ _ _ _ _ _ _ (at-loop .inv) _ _ _ (at-test .taken) (at-mark-number .ensures) (at-sample .ensures)
 
 same-length : tie.Need-same-length Inv-loop μ-loop
 same-length c = search needs

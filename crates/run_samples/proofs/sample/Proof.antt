@@ -6,8 +6,8 @@ use Rattle.run_samples.proofs.sample.Tie as tie
 
 take-requires : tie.Need-take-requires
 take-requires c κs =
-    let at-start = c .before .before .before .before .before in
-    (at-start .pre .0, (at-start .pre .1 .0, at-start .pre .1 .1 .0))
+    let asked = c .before .before .before .before .before .pre in
+    (asked .0, (asked .1 .0, asked .1 .1 .0))
 
 add-feed : tie.Need-add-feed
 add-feed c = search needs
@@ -20,15 +20,15 @@ with-track-requires c κs = search needs
 
 advance-requires : tie.Need-advance-requires
 advance-requires c κs =
-    let at-start = c .before .before .before .before .before .before .before .before .before .before .before .before .before .before in
-    track-r4 _ _ _ (at-start .pre .1 .1 .1) (c .with-track .ensures)
+    let asked = c .before .before .before .before .before .before .before .before .before .before .before .before .before .before .pre in
+    track-r4 _ _ _ (asked .1 .1 .1) (c .with-track .ensures)
 
 returns : tie.Need-returns
 returns c =
-    let at-feed = c .before .before in
-    let at-take = c .before .before .before .before .before .before .before .before .before in
-    let at-start = c .before .before .before .before .before .before .before .before .before .before .before .before .before .before .before in
-    sampled _ _ _ _ _ _ _ _ _ _ _ _ _ _ _ _ _ _ _ _ (at-start .pre .1 .0 .0) (at-start .pre .1 .1 .1) (at-take .take .ensures) (at-feed .feed .ensures .0) (at-feed .feed .ensures .1 .0) (at-feed .feed .ensures .1 .1) (c .before .with-track .ensures) (c .advance .ensures)
+    let at-feed = c .before .before .feed in
+    let at-take = c .before .before .before .before .before .before .before .before .before .take in
+    let asked = c .before .before .before .before .before .before .before .before .before .before .before .before .before .before .before .pre in
+    sampled _ _ _ _ _ _ _ _ _ _ _ _ _ _ _ _ _ _ _ _ (asked .1 .0 .0) (asked .1 .1 .1) (at-take .ensures) (at-feed .ensures .0) (at-feed .ensures .1 .0) (at-feed .ensures .1 .1) (c .before .with-track .ensures) (c .advance .ensures)
 
 pub sample-spec : {M : Type 1} → statement M
 sample-spec =

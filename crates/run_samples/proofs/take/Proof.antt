@@ -16,11 +16,11 @@ unheard-requires c κs = search needs
 
 returns : tie.Need-returns
 returns c =
-    let at-test = c .before in
-    let at-finite = c .before .before in
-    let at-measure = c .before .before .before .before in
-    let at-start = c .before .before .before .before .before .before .before in
-    take-blank _ _ _ _ _ _ _ _ _ _ (at-measure .measure .ensures) _ _ (at-finite .finite-c .ensures) (not-true _ (at-test .if1 .taken)) (at-start .pre .1 .1) (c .unheard .ensures)
+    let at-if1 = c .before .if1 in
+    let at-finite-c = c .before .before .finite-c in
+    let at-measure = c .before .before .before .before .measure in
+    let asked = c .before .before .before .before .before .before .before .pre in
+    take-blank _ _ _ _ _ _ _ _ _ _ (at-measure .ensures) _ _ (at-finite-c .ensures) (not-true _ (at-if1 .taken)) (asked .1 .1) (c .unheard .ensures)
 
 finite-c-requires-2 : tie.Need-finite-c-requires-2
 finite-c-requires-2 c κs = search needs
@@ -30,13 +30,13 @@ unheard-requires-2 c κs = search needs
 
 returns-2 : tie.Need-returns-2
 returns-2 c =
-    let at-second = c .before in
-    let at-finite2 = c .before .before in
-    let at-first = c .before .before .before in
-    let at-finite = c .before .before .before .before in
-    let at-measure = c .before .before .before .before .before .before in
-    let at-start = c .before .before .before .before .before .before .before .before .before in
-    take-spilled _ _ _ _ _ _ _ _ _ _ (at-measure .measure .ensures) _ _ (at-finite .finite-c .ensures) (not-false _ (at-first .if1 .left)) _ (at-finite2 .finite-c2 .ensures) (not-true _ (at-second .if2 .taken)) (at-start .pre .1 .1) (c .unheard2 .ensures)
+    let at-if2 = c .before .if2 in
+    let at-finite-c2 = c .before .before .finite-c2 in
+    let at-if1 = c .before .before .before .if1 in
+    let at-finite-c = c .before .before .before .before .finite-c in
+    let at-measure = c .before .before .before .before .before .before .measure in
+    let asked = c .before .before .before .before .before .before .before .before .before .pre in
+    take-spilled _ _ _ _ _ _ _ _ _ _ (at-measure .ensures) _ _ (at-finite-c .ensures) (not-false _ (at-if1 .left)) _ (at-finite-c2 .ensures) (not-true _ (at-if2 .taken)) (asked .1 .1) (c .unheard2 .ensures)
 
 step-size-requires : tie.Need-step-size-requires
 step-size-requires c κs = search needs
@@ -46,13 +46,13 @@ hear-requires c κs = search needs
 
 returns-3 : tie.Need-returns-3
 returns-3 c =
-    let at-size = c .before .before .before in
-    let at-second = c .before .before .before .before in
-    let at-finite2 = c .before .before .before .before .before in
-    let at-first = c .before .before .before .before .before .before in
-    let at-finite = c .before .before .before .before .before .before .before in
-    let at-measure = c .before .before .before .before .before .before .before .before .before in
-    take-heard _ _ _ _ _ _ _ _ _ _ (at-measure .measure .ensures) _ _ (at-finite .finite-c .ensures) (not-false _ (at-first .if1 .left)) _ (at-finite2 .finite-c2 .ensures) (not-false _ (at-second .if2 .left)) _ _ _ (c .hear .ensures .1 .1) (at-size .step-size .ensures) (c .hear .ensures .0) (c .hear .ensures .1 .0)
+    let at-step-size = c .before .before .before .step-size in
+    let at-if2 = c .before .before .before .before .if2 in
+    let at-finite-c2 = c .before .before .before .before .before .finite-c2 in
+    let at-if1 = c .before .before .before .before .before .before .if1 in
+    let at-finite-c = c .before .before .before .before .before .before .before .finite-c in
+    let at-measure = c .before .before .before .before .before .before .before .before .before .measure in
+    take-heard _ _ _ _ _ _ _ _ _ _ (at-measure .ensures) _ _ (at-finite-c .ensures) (not-false _ (at-if1 .left)) _ (at-finite-c2 .ensures) (not-false _ (at-if2 .left)) _ _ _ (c .hear .ensures .1 .1) (at-step-size .ensures) (c .hear .ensures .0) (c .hear .ensures .1 .0)
 
 pub take-spec : {M : Type 1} → statement M
 take-spec =
