@@ -181,13 +181,32 @@ pub fn step(s: EqualizeState, t: CosSin, y: C32, forward: f32, m: f32) -> Steppe
     }
 }
 
-// Steps 4 to 7.
+// Steps 4 to 7 by a borrowed table. These are the calls of `step` again: called from both paths, `step` would be compiled out of line, and a sample of
+// a run takes 3 to 5 ns longer then.
 pub fn follow(s: EqualizeState, t: &[u32; 4097], y: C32, forward: f32, size: f32) -> Stepped
     requires { ⌜ now t ≡ cosBits ⌝ }
     ensures { λ r. ⌜ r ≡ stepOf s y forward size ⌝ }
 {
     let turn = mix::interp_f32_pair_in(t, s.phase);
-    step(s, turn, y, forward, size)
+    let p = s.params;
+    let k = p.constellation;
+    let z = costas::derotate(y, turn);
+    let d = constellation::decide(k, z);
+    let e = C32 {
+        re: z.re - d.re,
+        im: z.im - d.im,
+    };
+    let a = aim_of(s, turn, y, d, e);
+    let sounds = forward != 0.0;
+    let update = update_of(sounds, a.e, size);
+    let fed = fed_if(sounds, a.fed);
+    let track = tracked(s, z, d, e);
+    Stepped {
+        track,
+        z,
+        fed,
+        update,
+    }
 }
 
 // The step size by the mode and the window power.
