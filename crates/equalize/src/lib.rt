@@ -16,10 +16,10 @@ ghost use Rattle.definition.specs.Calls.{equalizeDef};
 // A run has a start to pay, which fewer samples do not earn back the fewer the taps are (docs/PERFORMANCE.md).
 fn by_runs(taps: usize, len: usize) -> bool {
     if taps < 7 {
-        return len >= 48;
+        return len >= 72;
     }
     if taps < 24 {
-        return len >= 24;
+        return len >= 28;
     }
     if taps < 40 {
         return len >= 16;
