@@ -7,7 +7,7 @@ use lib.Dec.{eqb}
 use borrow.Author.Tests.{eqb-true}
 use lib.Ieee.{isNan, ofBits, ofFields, lt, eq, le}
 use Rattle.definition.specs.Refusals.{firstOf}
-use Rattle.types.specs.Numbers.{known, caseOf, modeNumber, modes, knownMode, constellationNumber, constellations}
+use Rattle.types_numbers.specs.Numbers.{known, caseOf, modeNumber, modes, knownMode, constellationNumber, constellations}
 use Rattle.types.specs.declared.EqMode.the-variants.{Decision}
 use Rattle.types.specs.declared.EqConstellation.the-variants.{Qam64}
 use Rattle.definition.specs.Rules.{muFits, ruleR2}

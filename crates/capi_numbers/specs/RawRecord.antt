@@ -10,7 +10,7 @@ use Rattle.types.specs.declared.Error.the-variants.{Odd, Record}
 use Rattle.types.specs.declared.Fresh.{Fresh}
 use Rattle.types.specs.declared.Fresh.the-variants.{Made, NotMade}
 use Rattle.types.specs.Bits.{zero32, f64}
-use Rattle.types.specs.Numbers.{modeNumber, knownMode, modeOf, constellationNumber, knownConstellation, constellationOf}
+use Rattle.types_numbers.specs.Numbers.{modeNumber, knownMode, modeOf, constellationNumber, knownConstellation, constellationOf}
 use Rattle.definition.specs.Refusals.{replyOf, test, firstOf}
 use Rattle.capi_numbers.specs.declared.EqSettings.{EqSettings}
 use Rattle.capi_numbers.specs.declared.EqRecord.{EqRecord}

@@ -47,7 +47,7 @@ pub struct EqReply {
 pub fn known_settings(p: EqSettings) -> bool
     ensures { λ r. ⌜ r ≡ knownSettings p ⌝ }
 {
-    types::known_constellation(p.constellation)
+    types_numbers::known_constellation(p.constellation)
 }
 
 // Whether the numbers of the constellation and the mode are known.
@@ -55,14 +55,14 @@ pub fn known_record(r: EqRecord) -> bool
     ensures { λ b. ⌜ b ≡ knownRecord r ⌝ }
 {
     let settings = r.settings;
-    known_settings(settings) & types::known_mode(r.mode)
+    known_settings(settings) & types_numbers::known_mode(r.mode)
 }
 
 // The settings of numbers; an unknown number is taken for its last case.
 pub fn settings_in(p: EqSettings) -> EqParams
     ensures { λ r. ⌜ r ≡ settingsIn p ⌝ }
 {
-    let constellation = types::constellation_of(p.constellation);
+    let constellation = types_numbers::constellation_of(p.constellation);
     EqParams {
         constellation,
         feedback_taps: p.feedback_taps,
@@ -79,7 +79,7 @@ pub fn record_in(r: EqRecord) -> EqualizeState
 {
     let settings = r.settings;
     let params = settings_in(settings);
-    let mode = types::mode_of(r.mode);
+    let mode = types_numbers::mode_of(r.mode);
     EqualizeState {
         params,
         kp: r.kp,
@@ -97,7 +97,7 @@ fn settings_out(p: EqParams) -> EqSettings
     ensures { λ r. ⌜ r ≡ settingsOut p ⌝ }
 {
     let k = p.constellation;
-    let constellation = types::constellation_number(k);
+    let constellation = types_numbers::constellation_number(k);
     EqSettings {
         phase_bw: p.phase_bw,
         feedback_taps: p.feedback_taps,
@@ -115,7 +115,7 @@ pub fn record_out(s: EqualizeState) -> EqRecord
     let p = s.params;
     let m = s.mode;
     let settings = settings_out(p);
-    let mode = types::mode_number(m);
+    let mode = types_numbers::mode_number(m);
     EqRecord {
         settings,
         kp: s.kp,
@@ -192,7 +192,7 @@ fn got_of(e: Error) -> usize
 fn refused(state: EqRecord, e: Error) -> EqReply
     ensures { λ r. ⌜ r ≡ replied state (replyOf (Outcome.Refused e)) ⌝ }
 {
-    let number = types::error_number(e);
+    let number = types_numbers::error_number(e);
     let expected = expected_of(e);
     let got = got_of(e);
     EqReply {

@@ -1,3 +1,2 @@
--- Levels: floors and levels by a tree of comparisons. Radius: Godard's R2, computed.
-pub mod Levels
+-- Radius: Godard's R2, computed.
 pub mod Radius

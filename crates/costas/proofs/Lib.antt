@@ -1,5 +1,3 @@
--- Sizes: |v| by a comparison, and the integrator. Octants: the 8-PSK decision. Halves, Steps: the phase step.
+-- Sizes: |v| by a comparison, and the integrator. Octants: the 8-PSK decision.
 pub mod Sizes
 pub mod Octants
-pub mod Halves
-pub mod Steps

@@ -6,8 +6,9 @@ use native.Mathlib.Omega.{arith}
 use native.Mathlib.Nat.{mul-one, zero-mul}
 use lib.IntN.{ℤ}
 use lib.Dec.{T, ltb, eqb}
-use borrow.Author.Tests.{le-ltb, ltb-true, ltb-false, eqb-true, eqb-false}
+use borrow.Author.Tests.{le-ltb, ltb-true, ltb-false, eqb-true}
 use lib.Ieee.{Float, nan, inf, fin, ofBits, ofFields, odd, up, down, neg, lt, le, eq, below, level}
+use Rattle.laws.specs.Order.{le-yes}
 use Rattle.types.specs.Bits.{zero32}
 use Rattle.definition.specs.Floats.{tiny, abs, flush, clip}
 
@@ -16,9 +17,6 @@ size v = cond (lt v zero32) (neg v) v
 
 no-true : {A : Type 0} → false ≡ true → A
 no-true h = absurd (subst T (sym h) tt)
-
-no-false : {A : Type 0} → true ≡ false → A
-no-false h = absurd (subst T h tt)
 
 least : (a z : ℕ) → z ≡ 0 → z ≤ a
 least a z h = omega arith
@@ -92,32 +90,6 @@ pub size-lt : (u v : Float) → lt (size u) (size v) ≡ lt (abs u) (abs v)
 size-lt u v = seen-lt (seen u) (seen v)
 
 -- ---- what `le` says of two numbers
-
--- of two that are not negative
-pub le-yes : (a b : ℕ) → (ltb a b || (eqb a b && true)) ≡ true → a ≤ b
-le-yes a b h = go (ltb a b) (eqb a b) refl refl h
-  where
-    less : a < b → a ≤ b
-    less l = omega arith
-
-    same : a ≡ b → a ≤ b
-    same e = omega arith
-
-    go : (p q : Bool) → ltb a b ≡ p → eqb a b ≡ q → (p || (q && true)) ≡ true → a ≤ b
-    go true q l e h = less (ltb-true a b l)
-    go false true l e h = same (eqb-true a b e)
-    go false false l e h = no-true h
-
-pub le-no : (a b : ℕ) → (ltb a b || (eqb a b && true)) ≡ false → b < a
-le-no a b h = go (ltb a b) (eqb a b) refl refl h
-  where
-    less : b ≤ a → (a ≡ b → ⊥) → b < a
-    less l n = omega arith
-
-    go : (p q : Bool) → ltb a b ≡ p → eqb a b ≡ q → (p || (q && true)) ≡ false → b < a
-    go true q l e h = no-false h
-    go false true l e h = no-false h
-    go false false l e h = less (ltb-false a b l) (eqb-false a b e)
 
 both : (p q : Bool) → (p && q) ≡ true → (p ≡ true) × (q ≡ true)
 both true true h = (refl, refl)

@@ -17,7 +17,7 @@ use Rattle.definition.specs.Phase.{phaseStep}
 use Rattle.definition.specs.Points.{A, C8, S8, levelOf, decide, radius}
 use Rattle.definition.specs.Rules.{sameBits}
 use Rattle.definition.specs.Calls.{Answer, NewAnswer, newDef, equalizeDef}
-use Rattle.types.specs.Numbers.{modeNumber}
+use Rattle.types_numbers.specs.Numbers.{modeNumber}
 use Rattle.definition.specs.Rows.{same, bitsOf, settings}
 
 pub data Row : Type 0 where

@@ -1,4 +1,4 @@
--- The refusals, whose numbers are `errorNumber` (types): the two lengths that 4, 9 and 10 return (expected, then got), and the first test that fails.
+-- The refusals, whose numbers are `errorNumber` (types_numbers): the two lengths that 4, 9 and 10 return (expected, then got), and the first test that fails.
 use Prim.Native.Nat.{ℕ}
 use mathlib.Core.Bool.{Bool, cond}
 use mathlib.Core.List.{List, [], _∷_}
@@ -8,7 +8,7 @@ use Rattle.types.specs.declared.Outcome.{Outcome}
 use Rattle.types.specs.declared.Outcome.the-variants.{Served, Refused}
 use Rattle.types.specs.declared.Fresh.{Fresh}
 use Rattle.types.specs.declared.Fresh.the-variants.{Made, NotMade}
-use Rattle.types.specs.Numbers.{errorNumber}
+use Rattle.types_numbers.specs.Numbers.{errorNumber}
 
 -- the table of document 01: what is returned beside the number
 abbrev pub errorValues : Error → List ℕ

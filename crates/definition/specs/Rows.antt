@@ -10,7 +10,7 @@ use Rattle.types.specs.declared.EqConstellation.the-variants.{Qpsk}
 use Rattle.types.specs.declared.EqParams.{EqParams}
 use Rattle.types.specs.declared.EqualizeState.{EqualizeState}
 use Rattle.types.specs.Bits.{f32, f64}
-use Rattle.types.specs.Numbers.{modeNumber, constellationNumber}
+use Rattle.types_numbers.specs.Numbers.{modeNumber, constellationNumber}
 use Rattle.definition.specs.Sample.{Equalizer}
 
 abbrev pub same : List ℕ → List ℕ → Bool

@@ -3,7 +3,7 @@ use Prim.Native.Nat.{ℕ}
 use mathlib.Core.List.{List, [], _∷_, _++_}
 use lib.Ieee.{Float}
 use Rattle.types.specs.declared.C32.{C32}
-use Rattle.types.specs.Numbers.{markNumber}
+use Rattle.types_numbers.specs.Numbers.{markNumber}
 use Rattle.definition.specs.Sample.{Equalizer, Out, sampleDef}
 
 -- what a block leaves, and one symbol and one mark for each sample

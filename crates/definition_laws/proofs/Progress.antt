@@ -10,7 +10,7 @@ use lib.Seq.{take-suc-set, take-all, drop-cons}
 use lib.Dec.{T}
 use lib.Ieee.{Float, nan}
 use Rattle.types.specs.declared.C32.{C32}
-use Rattle.types.specs.Numbers.{markNumber}
+use Rattle.types_numbers.specs.Numbers.{markNumber}
 use Rattle.definition.specs.Floats.{complex}
 use Rattle.definition.specs.Slices.{samplesOf}
 use Rattle.definition.specs.Sample.{Equalizer, Did, Out, sampleDef}

@@ -12,7 +12,7 @@ use Rattle.types.specs.declared.C32.{C32}
 use Rattle.types.specs.declared.EqualizeState.{EqualizeState}
 use Rattle.types.specs.declared.Mark.the-variants.{Blank}
 use Rattle.types.specs.Bits.{zero32}
-use Rattle.types.specs.Numbers.{markNumber}
+use Rattle.types_numbers.specs.Numbers.{markNumber}
 use Rattle.definition.specs.Floats.{finiteC}
 use Rattle.definition.specs.Slices.{zeros}
 use Rattle.definition.specs.Sample.{Equalizer, Out, feedback, forward, withMode}

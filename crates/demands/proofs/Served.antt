@@ -12,7 +12,7 @@ use lib.Ieee.{Float}
 use Rattle.types.specs.declared.C32.{C32}
 use Rattle.types.specs.declared.Error.the-variants.{Odd, Record, Output, Marks}
 use Rattle.types.specs.declared.Outcome.{Outcome}
-use Rattle.types.specs.Numbers.{markNumber}
+use Rattle.types_numbers.specs.Numbers.{markNumber}
 use Rattle.types.specs.declared.Outcome.the-variants.{Served, Refused}
 use Rattle.definition.specs.Refusals.{test, firstOf}
 use Rattle.definition.specs.Slices.{whole, samplesOf}

@@ -19,7 +19,7 @@ use Rattle.types.specs.declared.Outcome.{Outcome}
 use Rattle.types.specs.declared.Outcome.the-variants.{Served, Refused}
 use Rattle.types.specs.declared.Mark.{Mark}
 use Rattle.types.specs.declared.Mark.the-variants.{Heard, Blank, Spilled}
-use Rattle.types.specs.Numbers.{errorNumber, markNumber}
+use Rattle.types_numbers.specs.Numbers.{errorNumber, markNumber}
 use Rattle.definition.specs.Refusals.{errorValues, test, firstOf}
 use Rattle.definition.specs.Floats.{zeroC, finiteC}
 use Rattle.definition.specs.Sample.{Equalizer, allTaps, forward, step1, step2, withRunning}

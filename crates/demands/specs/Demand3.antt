@@ -6,7 +6,7 @@ use mathlib.Core.List.{List, _++_}
 use lib.ListN.{length, take, replicate}
 use Rattle.types.specs.declared.C32.{C32}
 use Rattle.types.specs.declared.Mark.the-variants.{Blank}
-use Rattle.types.specs.Numbers.{markNumber}
+use Rattle.types_numbers.specs.Numbers.{markNumber}
 use Rattle.definition.specs.Slices.{zeros}
 use Rattle.definition.specs.Sample.{Equalizer, feedback, forward}
 use Rattle.definition.specs.Rules.{acceptedDef}

@@ -1,3 +1,3 @@
--- Lanes: the partial sums. Answers: one law for each exit of dot_complex.
+-- Lanes: the partial sums. Shorter: the shorter of two slices says how many.
 pub mod Lanes
-pub mod Answers
+pub mod Shorter

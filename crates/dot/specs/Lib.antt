@@ -1,3 +1,2 @@
--- Dot: what dot_complex answers. Added: what a block of products does to the partial sums.
-pub mod Dot
+-- Added: what a block of products does to the partial sums.
 pub mod Added

@@ -5,15 +5,7 @@ ghost use Prim.Native.Nat.{_*_, _+_, _<_, _≤_};
 ghost use lib.ListN.{length, getD};
 ghost use lib.Ieee.{nan};
 ghost use Rattle.definition.specs.Slices.{prodRe, prodIm, sum8, tree, filterSum, dotComplex};
-ghost use Rattle.dot.specs.Dot.{dotDef};
 ghost use Rattle.dot.specs.Added.{Added};
-
-// What dot_complex answers. Lengths are in complex numbers.
-pub enum DotComplex {
-    Sum(C32),
-    LengthMismatch { expected: usize, got: usize },
-    Odd,
-}
 
 // The final sum of the eight partial sums.
 pub fn dot_complex_tree(a: &[f32; 8]) -> f32
@@ -148,23 +140,4 @@ pub fn dot_complex_c32(x: &[f32], w: &[f32]) -> C32
         return filter_sum(x, w, a);
     }
     filter_sum(x, w, b)
-}
-
-// The sum over two slices of one length.
-pub fn dot_complex(x: &[f32], w: &[f32]) -> DotComplex
-    ensures { λ r. ⌜ r ≡ dotDef (now (x .entry)) (now (w .entry)) ⌝ }
-{
-    if x.len() % 2 != 0 {
-        return DotComplex::Odd;
-    }
-    if w.len() % 2 != 0 {
-        return DotComplex::Odd;
-    }
-    let expected = x.len() / 2;
-    let got = w.len() / 2;
-    if expected != got {
-        return DotComplex::LengthMismatch { expected, got };
-    }
-    let sum = dot_complex_c32(x, w);
-    DotComplex::Sum(sum)
 }

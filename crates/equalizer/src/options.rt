@@ -57,7 +57,7 @@ impl Options {
         let p = EqParams::default();
         let k = p.constellation;
         Options {
-            constellation: types::constellation_number(k),
+            constellation: types_numbers::constellation_number(k),
             taps: 11,
             feedback: p.feedback_taps,
             mu_cma: p.mu_cma,
@@ -78,7 +78,7 @@ impl Options {
 
     pub(crate) fn params(self) -> EqParams {
         EqParams {
-            constellation: types::constellation_of(self.constellation),
+            constellation: types_numbers::constellation_of(self.constellation),
             feedback_taps: self.feedback,
             mu_cma: self.mu_cma,
             mu_dd: self.mu_dd,
@@ -206,7 +206,7 @@ fn read_block(o: Options, value: &[u8]) -> Set {
 
 fn with_constellation(o: Options, k: EqConstellation) -> Set {
     let mut n = o;
-    n.constellation = types::constellation_number(k);
+    n.constellation = types_numbers::constellation_number(k);
     Set::To(n)
 }
 

@@ -132,7 +132,7 @@ fn lengths(p: &mut Page, start: usize, what: &[u8], expected: usize, got: usize)
 pub(crate) fn refused(o: Options, e: Error) {
     let mut p = [0u8; 4096];
     let a = begin(&mut p, o, b"refused, number ");
-    let b = counted(&mut p, a, types::error_number(e) as u64, b": ");
+    let b = counted(&mut p, a, types_numbers::error_number(e) as u64, b": ");
     let c = reason(&mut p, b, e);
     tell(&mut p, c, o);
 }

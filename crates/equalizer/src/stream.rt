@@ -158,11 +158,11 @@ fn one_more(n: u64) -> u64 {
 fn with_mark(t: Tally, mark: u8) -> Tally {
     let mut n = t;
     n.samples = one_more(t.samples);
-    if !types::known_mark(mark) {
+    if !types_numbers::known_mark(mark) {
         n.unknown = one_more(t.unknown);
         return n;
     }
-    match types::mark_of(mark) {
+    match types_numbers::mark_of(mark) {
         Mark::Heard => n.heard = one_more(t.heard),
         Mark::Blank => n.blank = one_more(t.blank),
         Mark::Spilled => n.spilled = one_more(t.spilled),

@@ -6,7 +6,7 @@ use native.Mathlib.Omega.{arith}
 use lib.ListN.{length, getD, set, length-set}
 use lib.Ieee.{Float, nan}
 use Rattle.types.specs.declared.C32.{C32}
-use Rattle.types.specs.Numbers.{markNumber}
+use Rattle.types_numbers.specs.Numbers.{markNumber}
 use Rattle.definition.specs.Floats.{complex}
 use Rattle.definition.specs.Slices.{samplesOf}
 use Rattle.definition.specs.Packed.{equalizer, ServedBlock, Ran}

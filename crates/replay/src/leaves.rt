@@ -147,7 +147,7 @@ fn loop_gains(w: &Words) -> bool {
 }
 
 fn phase_step(w: &Words) -> bool {
-    costas::phase_step_f32(single(w[0])) as u64 == w[1]
+    costas_step::phase_step_f32(single(w[0])) as u64 == w[1]
 }
 
 fn integrate(w: &Words) -> bool {
@@ -199,8 +199,8 @@ fn decide_level(w: &Words) -> bool {
     };
     let v = single(w[1]);
     match k {
-        EqConstellation::Qam16 => constellation::decide_level(Qam::Qam16, v) as u64 == w[2],
-        EqConstellation::Qam64 => constellation::decide_level(Qam::Qam64, v) as u64 == w[2],
+        EqConstellation::Qam16 => constellation_qam::decide_level(Qam::Qam16, v) as u64 == w[2],
+        EqConstellation::Qam64 => constellation_qam::decide_level(Qam::Qam64, v) as u64 == w[2],
         EqConstellation::Bpsk | EqConstellation::Qpsk | EqConstellation::Psk8 => false,
     }
 }

@@ -110,7 +110,7 @@ fn same_refusal(o: Outcome, number: u64, expected: u64, got: u64) -> bool {
         Outcome::Served => number == 0 && expected == 0 && got == 0,
         Outcome::Refused(e) => {
             let l = lengths_of(e);
-            (types::error_number(e) as u64 == number)
+            (types_numbers::error_number(e) as u64 == number)
                 & (l.expected as u64 == expected)
                 & (l.got as u64 == got)
         }

@@ -26,8 +26,8 @@ pub(crate) enum Numbered {
 
 pub(crate) fn constellation_of(w: u64) -> Numbered {
     let n = whole(w);
-    if n as u64 == w && types::known_constellation(n) {
-        return Numbered::Known(types::constellation_of(n));
+    if n as u64 == w && types_numbers::known_constellation(n) {
+        return Numbered::Known(types_numbers::constellation_of(n));
     }
     Numbered::Unknown
 }
@@ -61,14 +61,14 @@ pub(crate) fn record_of(r: &[u64; 14]) -> Found {
         return Found::Nothing;
     };
     let m = whole(r[9]);
-    if m as u64 != r[9] || !types::known_mode(m) {
+    if m as u64 != r[9] || !types_numbers::known_mode(m) {
         return Found::Nothing;
     }
     Found::Record(EqualizeState {
         params: params_of(r, k),
         kp: single(r[7]),
         ki: single(r[8]),
-        mode: types::mode_of(m),
+        mode: types_numbers::mode_of(m),
         count: whole(r[10]),
         mse: single(r[11]),
         phase: whole(r[12]),
@@ -78,7 +78,7 @@ pub(crate) fn record_of(r: &[u64; 14]) -> Found {
 
 fn same_params(p: EqParams, r: &[u64; 14]) -> bool {
     let k = p.constellation;
-    (types::constellation_number(k) as u64 == r[0])
+    (types_numbers::constellation_number(k) as u64 == r[0])
         & (p.feedback_taps as u64 == r[1])
         & same(p.mu_cma, r[2])
         & same(p.mu_dd, r[3])
@@ -92,7 +92,7 @@ pub(crate) fn same_record(s: EqualizeState, r: &[u64; 14]) -> bool {
     same_params(params, r)
         & same(s.kp, r[7])
         & same(s.ki, r[8])
-        & (types::mode_number(mode) as u64 == r[9])
+        & (types_numbers::mode_number(mode) as u64 == r[9])
         & (s.count as u64 == r[10])
         & same(s.mse, r[11])
         & (s.phase as u64 == r[12])

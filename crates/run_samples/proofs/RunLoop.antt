@@ -8,7 +8,7 @@ use native.Mathlib.Decide.{decLt}
 use lib.ListN.{length, getD, set, length-set}
 use lib.Ieee.{Float, nan}
 use Rattle.types.specs.declared.EqualizeState.{EqualizeState}
-use Rattle.types.specs.Numbers.{markNumber}
+use Rattle.types_numbers.specs.Numbers.{markNumber}
 use Rattle.definition.specs.Floats.{complex}
 use Rattle.definition.specs.Slices.{reAt, imAt}
 use Rattle.definition.specs.Packed.{equalizer}

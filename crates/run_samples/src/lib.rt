@@ -227,7 +227,7 @@ pub fn run(
         output[j] = out.re;
         output[j + 1] = out.im;
         let mark = r.mark;
-        marks[k] = types::mark_number(mark);
+        marks[k] = types_numbers::mark_number(mark);
         let next = r.state;
         s = next;
         k += 1;

@@ -75,7 +75,7 @@ fn moved(phase: u32, mse: f32, f: f32, v: f32) -> Track
     Track {
         mse,
         freq: f,
-        phase: std::num::wrapping_add_u32(phase, costas::phase_step_f32(v)),
+        phase: std::num::wrapping_add_u32(phase, costas_step::phase_step_f32(v)),
     }
 }
 

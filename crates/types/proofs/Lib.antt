@@ -1,3 +1,2 @@
--- Laws that belong to no one function: the start, and the numbers of the cases.
+-- Laws that belong to no one function: the start.
 pub mod Starts
-pub mod Cases

@@ -1,4 +1,3 @@
--- What the contracts of the types cite: floats by their bits, the numbers of an enum's cases, the record at the start.
+-- What the contracts of the types cite: floats by their bits, the record at the start.
 pub mod Bits
-pub mod Numbers
 pub mod Start

@@ -1,9 +1,8 @@
-// The types of the equalizer, with the Rust's names, and the numbers of its refusals. What each operation returns and leaves is
+// The types of the equalizer, with the Rust's names, its constants and the readers of the record. What each operation returns and leaves is
 // defined in the crate definition, from document 01.
 ghost use mathlib.Core.Path.{_≡_};
 ghost use Prim.Native.Nat.{_-_, _/_};
 ghost use lib.ListN.{length};
-ghost use Rattle.types.specs.Numbers.{errorNumber, modeNumber, constellationNumber, markNumber, knownConstellation, constellationOf, knownMode, modeOf, knownMark, markOf};
 ghost use Rattle.types.specs.Bits.{f32 as f32Of, f64 as f64Of};
 ghost use Rattle.types.specs.Start.{startMode, startState};
 
@@ -254,33 +253,6 @@ impl EqualizeState {
     }
 }
 
-// The number of a refusal.
-pub fn error_number(e: Error) -> u32
-    ensures { λ r. ⌜ r ≡ errorNumber e ⌝ }
-{
-    match e {
-        Error::Odd => 1,
-        Error::Feedback => 2,
-        Error::Taps => 3,
-        Error::Window {
-            expected: _,
-            got: _,
-        } => 4,
-        Error::MuCma => 5,
-        Error::MuDd => 6,
-        Error::Bandwidth => 7,
-        Error::Record => 8,
-        Error::Output {
-            expected: _,
-            got: _,
-        } => 9,
-        Error::Marks {
-            expected: _,
-            got: _,
-        } => 10,
-    }
-}
-
 // The numbers of the marks: the bytes that a caller reads.
 impl Mark {
     pub const HEARD: u8 = 0;
@@ -290,65 +262,11 @@ impl Mark {
     pub const SPILLED: u8 = 2;
 }
 
-pub fn mark_number(m: Mark) -> u8
-    ensures { λ r. ⌜ r ≡ markNumber m ⌝ }
-{
-    match m {
-        Mark::Heard => Mark::HEARD,
-        Mark::Blank => Mark::BLANK,
-        Mark::Spilled => Mark::SPILLED,
-    }
-}
-
-// Whether n is the number of a mark.
-pub fn known_mark(n: u8) -> bool
-    ensures { λ r. ⌜ r ≡ knownMark n ⌝ }
-{
-    (n == Mark::HEARD) | (n == Mark::BLANK) | (n == Mark::SPILLED)
-}
-
-// The mark with the number n; the last for a number of none.
-pub fn mark_of(n: u8) -> Mark
-    ensures { λ r. ⌜ r ≡ markOf n ⌝ }
-{
-    match n {
-        Mark::HEARD => Mark::Heard,
-        Mark::BLANK => Mark::Blank,
-        _ => Mark::Spilled,
-    }
-}
-
 // The numbers of the modes.
 impl EqMode {
     pub const CMA: u32 = 0;
 
     pub const DECISION: u32 = 1;
-}
-
-pub fn mode_number(m: EqMode) -> u32
-    ensures { λ r. ⌜ r ≡ modeNumber m ⌝ }
-{
-    match m {
-        EqMode::Cma => EqMode::CMA,
-        EqMode::Decision => EqMode::DECISION,
-    }
-}
-
-// Whether n is the number of a mode.
-pub fn known_mode(n: u32) -> bool
-    ensures { λ r. ⌜ r ≡ knownMode n ⌝ }
-{
-    (n == EqMode::CMA) | (n == EqMode::DECISION)
-}
-
-// The mode with the number n; the last for a number of none.
-pub fn mode_of(n: u32) -> EqMode
-    ensures { λ r. ⌜ r ≡ modeOf n ⌝ }
-{
-    match n {
-        EqMode::CMA => EqMode::Cma,
-        _ => EqMode::Decision,
-    }
 }
 
 // The numbers of the constellations.
@@ -362,40 +280,4 @@ impl EqConstellation {
     pub const QAM16: u32 = 3;
 
     pub const QAM64: u32 = 4;
-}
-
-pub fn constellation_number(k: EqConstellation) -> u32
-    ensures { λ r. ⌜ r ≡ constellationNumber k ⌝ }
-{
-    match k {
-        EqConstellation::Bpsk => EqConstellation::BPSK,
-        EqConstellation::Qpsk => EqConstellation::QPSK,
-        EqConstellation::Psk8 => EqConstellation::PSK8,
-        EqConstellation::Qam16 => EqConstellation::QAM16,
-        EqConstellation::Qam64 => EqConstellation::QAM64,
-    }
-}
-
-// Whether n is the number of a constellation.
-pub fn known_constellation(n: u32) -> bool
-    ensures { λ r. ⌜ r ≡ knownConstellation n ⌝ }
-{
-    (n == EqConstellation::BPSK)
-        | (n == EqConstellation::QPSK)
-        | (n == EqConstellation::PSK8)
-        | (n == EqConstellation::QAM16)
-        | (n == EqConstellation::QAM64)
-}
-
-// The constellation with the number n; the last for a number of none.
-pub fn constellation_of(n: u32) -> EqConstellation
-    ensures { λ r. ⌜ r ≡ constellationOf n ⌝ }
-{
-    match n {
-        EqConstellation::BPSK => EqConstellation::Bpsk,
-        EqConstellation::QPSK => EqConstellation::Qpsk,
-        EqConstellation::PSK8 => EqConstellation::Psk8,
-        EqConstellation::QAM16 => EqConstellation::Qam16,
-        _ => EqConstellation::Qam64,
-    }
 }

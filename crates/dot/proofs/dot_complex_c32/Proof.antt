@@ -1,6 +1,6 @@
 -- `dot::dot_complex_c32` meets its contract: the shorter slice says how many. Assumes nothing.
 use borrow.Author.Needs.{needs}
-use Rattle.dot.proofs.Answers.{first-shorter, second-shorter}
+use Rattle.dot.proofs.Shorter.{first-shorter, second-shorter}
 use Rattle.dot.proofs.dot_complex_c32.Statement.{statement}
 use Rattle.dot.proofs.dot_complex_c32.Tie as tie
 

@@ -1,0 +1,2 @@
+-- Levels: floors and levels by a tree of comparisons.
+pub mod Levels

@@ -1,0 +1,3 @@
+-- Halves, Steps: the phase step, by its exits.
+pub mod Halves
+pub mod Steps

@@ -1,0 +1,2 @@
+-- Dot: what dot_complex answers.
+pub mod Dot

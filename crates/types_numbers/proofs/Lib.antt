@@ -1,0 +1,2 @@
+-- Laws that belong to no one function: the numbers of the cases.
+pub mod Cases
