@@ -93,6 +93,7 @@ fn level8(v: f32) -> f32
     pick(t >= 4.0, hi, lo)
 }
 
+// The point of 16-QAM nearest to y, part by part.
 pub fn point16(y: C32) -> C32
     ensures { λ r. ⌜ r ≡ qamPoint qam.Qam16 y ⌝ }
 {
@@ -102,6 +103,7 @@ pub fn point16(y: C32) -> C32
     }
 }
 
+// The point of 64-QAM nearest to y.
 pub fn point64(y: C32) -> C32
     ensures { λ r. ⌜ r ≡ qamPoint qam.Qam64 y ⌝ }
 {
@@ -111,7 +113,7 @@ pub fn point64(y: C32) -> C32
     }
 }
 
-// The point nearest to y, part by part.
+// The point of either nearest to y.
 pub fn decide_qam(q: Qam, y: C32) -> C32
     ensures { λ r. ⌜ r ≡ qamPoint q y ⌝ }
 {

@@ -12,7 +12,7 @@ level4-requires-2 c κs = search needs
 
 returns : tie.Need-returns
 unfolding qamPoint
-returns c = cc
+returns c = rw (c .before .level4 .ensures, c .level42 .ensures)
 
 pub point16-spec : {M : Type 1} → statement M
 point16-spec = tie.close (tie.spec level4-requires level4-requires-2 returns)

@@ -12,7 +12,7 @@ level8-requires-2 c κs = search needs
 
 returns : tie.Need-returns
 unfolding qamPoint
-returns c = cc
+returns c = rw (c .before .level8 .ensures, c .level82 .ensures)
 
 pub point64-spec : {M : Type 1} → statement M
 point64-spec = tie.close (tie.spec level8-requires level8-requires-2 returns)

@@ -17,7 +17,7 @@ returns : tie.Need-returns
 returns c = search kept
 
 returns-2 : tie.Need-returns-2
-returns-2 c = cc
+returns-2 c = rw (← c .before .flush-denormal .ensures) (c .clip .ensures)
 
 pub integrate-spec : {M : Type 1} → statement M
 integrate-spec =

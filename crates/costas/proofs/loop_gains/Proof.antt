@@ -12,7 +12,7 @@ narrow-requires-2 c κs = search needs
 
 returns : tie.Need-returns
 unfolding loopGains gainKp gainKi theta divisor
-returns c = cc
+returns c = rw (c .before .narrow .ensures, c .narrow2 .ensures)
 
 pub loop-gains-spec : {M : Type 1} → statement M
 loop-gains-spec = tie.close (tie.spec narrow-requires narrow-requires-2 returns)

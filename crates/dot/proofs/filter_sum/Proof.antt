@@ -12,7 +12,7 @@ sum-im-requires c κs = search needs
 
 returns : tie.Need-returns
 unfolding filterSum
-returns c = cc
+returns c = rw (c .before .sum-re .ensures, c .sum-im .ensures)
 
 pub filter-sum-spec : {M : Type 1} → statement M
 filter-sum-spec = tie.close (tie.spec sum-re-requires sum-im-requires returns)

@@ -1,7 +1,6 @@
 -- `mix::interp_f32_pair` meets its contract: the parts are the definition's, and at phase 0 the table gives (1, 0). Assumes nothing.
 use borrow.Author.Needs.{needs}
-use Rattle.definition.specs.Phase.{interpPair}
-use Rattle.mix.proofs.Pair.{cos-sin-is}
+use Rattle.mix.proofs.Pair.{pair-of}
 use Rattle.mix.proofs.interp_f32_pair.Statement.{statement}
 use Rattle.mix.proofs.interp_f32_pair.Tie as tie
 
@@ -21,8 +20,8 @@ line-at-requires-2 : tie.Need-line-at-requires-2
 line-at-requires-2 c κs = search needs
 
 returns : tie.Need-returns
-unfolding interpPair
-returns c = (cc, simp (← cos-sin-is) cc)
+returns c =
+    pair-of _ _ _ _ _ (c .before .before .before .low-part .ensures) (c .before .before .line-at .ensures) (c .before .sine-index .ensures) (c .line-at2 .ensures)
 
 pub interp-f32-pair-spec : {M : Type 1} → statement M
 interp-f32-pair-spec =

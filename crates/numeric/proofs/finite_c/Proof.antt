@@ -12,7 +12,7 @@ is-finite-requires-2 c κs = search needs
 
 returns : tie.Need-returns
 unfolding finiteC
-returns c = cc
+returns c = rw (c .before .is-finite .ensures, c .is-finite2 .ensures)
 
 pub finite-c-spec : {M : Type 1} → statement M
 finite-c-spec = tie.close (tie.spec is-finite-requires is-finite-requires-2 returns)

@@ -13,7 +13,7 @@ clip-requires-2 c κs = search needs
 
 returns : tie.Need-returns
 unfolding clipC godardError
-returns c = cc
+returns c = rw (c .before .before .clip .ensures, c .clip2 .ensures)
 
 pub modulus-spec : {M : Type 1} → statement M
 modulus-spec = tie.close (tie.spec clip-requires clip-requires-2 returns)

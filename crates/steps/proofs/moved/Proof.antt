@@ -10,7 +10,7 @@ wrapping-add-u32-requires : tie.Need-wrapping-add-u32-requires
 wrapping-add-u32-requires c κs = search needs
 
 returns : tie.Need-returns
-returns c = cc
+returns c = rw (c .wrapping-add-u32 .ensures, c .before .phase-step-f32 .ensures)
 
 pub moved-spec : {M : Type 1} → statement M
 moved-spec = tie.close (tie.spec phase-step-f32-requires wrapping-add-u32-requires returns)

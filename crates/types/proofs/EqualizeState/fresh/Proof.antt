@@ -9,7 +9,7 @@ start-mode-requires c κs = search needs
 
 returns : tie.Need-returns
 unfolding startState
-returns c = cc
+returns c = rw (c .start-mode .ensures)
 
 pub fresh-spec : {M : Type 1} → statement M
 fresh-spec = tie.close (tie.spec start-mode-requires returns)
