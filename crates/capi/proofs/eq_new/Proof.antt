@@ -18,7 +18,10 @@ unknown-requires : tie.Need-unknown-requires
 unknown-requires c κs = search needs
 
 returns : tie.Need-returns
-returns c = new-unknown _ _ _ _ _ (c .before .before .before .before .known-settings .ensures) _ _ (search not-true) (c .before .before .no-record .ensures) (c .before .both-even .ensures) (c .unknown .ensures)
+returns c =
+    let known = c .before .before .before .before .known-settings .ensures in
+    let no = not-true _ (c .before .before .before .if1 .taken) in
+    new-unknown _ _ _ _ _ known _ _ no (c .before .before .no-record .ensures) (c .before .both-even .ensures) (c .unknown .ensures)
 
 settings-in-requires : tie.Need-settings-in-requires
 settings-in-requires c κs = search needs
@@ -36,7 +39,10 @@ same-length-2 : tie.Need-same-length-2
 same-length-2 c = search needs
 
 returns-2 : tie.Need-returns-2
-returns-2 c = search (new-known, not-false)
+returns-2 c =
+    let known = c .before .before .before .before .before .before .before .before .before .before .known-settings .ensures in
+    let yes = not-false _ (c .before .before .before .before .before .before .before .before .before .if1 .left) in
+    new-known _ _ _ _ _ known _ _ _ _ yes (c .before .before .before .before .before .before .before .before .settings-in .ensures) (c .before .before .before .before .before .new .ensures) (c .fresh-reply .ensures)
 
 pub eq-new-spec : {M : Type 1} → statement M
 eq-new-spec =

@@ -15,7 +15,10 @@ unknown-requires : tie.Need-unknown-requires
 unknown-requires c κs = search needs
 
 returns : tie.Need-returns
-returns c = search (block-unknown, not-true)
+returns c =
+    let known = c .before .before .before .known-record .ensures in
+    let no = not-true _ (c .before .before .if1 .taken) in
+    block-unknown _ _ _ known no _ _ _ _ _ _ (c .before .all-even .ensures) (c .unknown .ensures)
 
 record-in-requires : tie.Need-record-in-requires
 record-in-requires c κs = search needs
@@ -40,8 +43,10 @@ same-length-4 c = search needs
 
 returns-2 : tie.Need-returns-2
 returns-2 c =
-    let i = c .before .before .before .before .before .before .before .before .before .before .before .before .before .before in
-    block-known _ _ _ (i .before .before .known-record .ensures) _ (search not-false) (i .record-in .ensures) _ (c .reply .ensures) _ _ _ _ _ _ _ _ _ (c .before .before .before .before .before .before .before .before .before .equalize .ensures)
+    let known = c .before .before .before .before .before .before .before .before .before .before .before .before .before .before .before .before .known-record .ensures in
+    let yes = not-false _ (c .before .before .before .before .before .before .before .before .before .before .before .before .before .before .before .if1 .left) in
+    let taken = c .before .before .before .before .before .before .before .before .before .before .before .before .before .before .record-in .ensures in
+    block-known _ _ _ known _ yes taken _ (c .reply .ensures) _ _ _ _ _ _ _ _ _ (c .before .before .before .before .before .before .before .before .before .equalize .ensures)
 
 pub eq-reference-spec : {M : Type 1} → statement M
 eq-reference-spec =

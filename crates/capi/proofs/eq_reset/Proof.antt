@@ -15,7 +15,10 @@ unknown-requires : tie.Need-unknown-requires
 unknown-requires c κs = search needs
 
 returns : tie.Need-returns
-returns c = search (reset-unknown, not-true)
+returns c =
+    let known = c .before .before .before .known-record .ensures in
+    let no = not-true _ (c .before .before .if1 .taken) in
+    reset-unknown _ _ _ known no _ _ _ (c .before .both-even .ensures) (c .unknown .ensures)
 
 record-in-requires : tie.Need-record-in-requires
 record-in-requires c κs = search needs
@@ -33,7 +36,10 @@ same-length-2 : tie.Need-same-length-2
 same-length-2 c = search needs
 
 returns-2 : tie.Need-returns-2
-returns-2 c = search (reset-known, not-false)
+returns-2 c =
+    let known = c .before .before .before .before .before .before .before .before .before .before .known-record .ensures in
+    let yes = not-false _ (c .before .before .before .before .before .before .before .before .before .if1 .left) in
+    reset-known _ _ _ known _ yes (c .before .before .before .before .before .before .before .before .record-in .ensures) _ (c .reply .ensures) _ _ _ _ (c .before .before .before .before .before .reset .ensures)
 
 pub eq-reset-spec : {M : Type 1} → statement M
 eq-reset-spec =

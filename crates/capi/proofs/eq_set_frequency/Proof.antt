@@ -12,7 +12,8 @@ unknown-requires : tie.Need-unknown-requires
 unknown-requires c κs = search needs
 
 returns : tie.Need-returns
-returns c = search (frequency-unknown, not-true)
+returns c =
+    frequency-unknown _ _ _ (c .before .before .known-record .ensures) (not-true _ (c .before .if1 .taken)) _ (c .unknown .ensures)
 
 record-in-requires : tie.Need-record-in-requires
 record-in-requires c κs = search needs
@@ -27,7 +28,10 @@ served-requires : tie.Need-served-requires
 served-requires c κs = search needs
 
 returns-2 : tie.Need-returns-2
-returns-2 c = search (frequency-known, not-false)
+returns-2 c =
+    let known = c .before .before .before .before .before .known-record .ensures in
+    let yes = not-false _ (c .before .before .before .before .if1 .left) in
+    frequency-known _ _ _ known _ yes (c .before .before .before .record-in .ensures) _ _ _ (c .before .before .set-frequency .ensures) (c .before .record-out .ensures) (c .served .ensures)
 
 pub eq-set-frequency-spec : {M : Type 1} → statement M
 eq-set-frequency-spec =

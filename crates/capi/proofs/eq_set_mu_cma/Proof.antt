@@ -12,7 +12,8 @@ unknown-requires : tie.Need-unknown-requires
 unknown-requires c κs = search needs
 
 returns : tie.Need-returns
-returns c = search (cma-unknown, not-true)
+returns c =
+    cma-unknown _ _ _ (c .before .before .known-record .ensures) (not-true _ (c .before .if1 .taken)) _ (c .unknown .ensures)
 
 record-in-requires : tie.Need-record-in-requires
 record-in-requires c κs = search needs
@@ -24,7 +25,10 @@ reply-requires : tie.Need-reply-requires
 reply-requires c κs = search needs
 
 returns-2 : tie.Need-returns-2
-returns-2 c = search (cma-known, not-false)
+returns-2 c =
+    let known = c .before .before .before .before .known-record .ensures in
+    let yes = not-false _ (c .before .before .before .if1 .left) in
+    cma-known _ _ _ known _ yes (c .before .before .record-in .ensures) _ (c .reply .ensures) _ (c .before .set-mu-cma .ensures)
 
 pub eq-set-mu-cma-spec : {M : Type 1} → statement M
 eq-set-mu-cma-spec =
