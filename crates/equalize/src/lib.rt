@@ -111,7 +111,7 @@ fn equalize_paths(
         (equalizer r (now (weights .exit)) (now (window .exit))) (now (output .exit)) (now (marks .exit)) ⌝ }
 {
     if by_runs(weights.len() / 2, state.params.feedback_taps, marks.len()) {
-        run_block::equalize_linear(state, weights, window, input, output, marks)
+        run_linear::equalize_linear(state, weights, window, input, output, marks)
     } else {
         plain::block(state, weights, window, input, output, marks)
     }

@@ -7,7 +7,7 @@ ghost use Prim.Native.Nat.{_+_, _-_, _*_, _/_, _%_, _<_, _≤_};
 ghost use lib.ListN.{length};
 ghost use Rattle.tables.specs.Table.{cosBits};
 ghost use Rattle.definition.specs.Slices.{samplesOf};
-ghost use Rattle.definition.specs.Packed.{equalizer, Ran, ServedBlock};
+ghost use Rattle.definition.specs.Packed.{equalizer, Ran};
 ghost use Rattle.definition.specs.Rules.{ruleR4};
 ghost use Rattle.definition.specs.Run.{runDef};
 ghost use Rattle.lanes.specs.Arrays.{arrays, Long};
@@ -167,7 +167,7 @@ fn store_linear(
 }
 
 // A block by n forward and m feedback taps: arrays, all runs, and back.
-fn linear_state(
+pub fn linear_state(
     t: &[u32; 4097],
     state: EqualizeState,
     weights: &mut [f32],
@@ -218,24 +218,4 @@ fn linear_state(
     );
     store_linear(weights, window, n, m, &wr, &wi, &xr, &xi);
     s
-}
-
-// A block of samples of an accepted record. The cosine table is borrowed once for all of it.
-pub fn equalize_linear(
-    state: EqualizeState,
-    weights: &mut [f32],
-    window: &mut [f32],
-    input: &[f32],
-    output: &mut [f32],
-    marks: &mut [u8],
-) -> EqualizeState
-    requires { ⌜ ServedBlock (equalizer state (now weights) (now window)) (now input) (now output) (now marks) ⌝ }
-    ensures { λ r. ⌜ Ran (runDef (equalizer state (now (weights .entry)) (now (window .entry))) (samplesOf (now (input .entry))))
-        (equalizer r (now (weights .exit)) (now (window .exit))) (now (output .exit)) (now (marks .exit)) ⌝ }
-{
-    let table = &tables::COS_BITS;
-    let p = state.params;
-    let m = p.feedback_taps;
-    let n = weights.len() / 2 - m;
-    linear_state(table, state, weights, window, input, output, marks, n, m)
 }

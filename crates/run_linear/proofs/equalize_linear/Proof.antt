@@ -1,11 +1,11 @@
 -- `equalize_linear` gives the definition's outcome: the taps of an accepted record fit, and `linear_state` does the rest.
 use borrow.Author.Needs.{needs}
 use Rattle.run_block.proofs.Call.{feedback-fits}
 use native.Mathlib.Omega.{arith}
 use mathlib.Core.Path.{refl}
 use Rattle.tables.specs.Table.{cosBits}
-use Rattle.run_block.proofs.equalize_linear.Statement.{statement}
-use Rattle.run_block.proofs.equalize_linear.Tie as tie
+use Rattle.run_linear.proofs.equalize_linear.Statement.{statement}
+use Rattle.run_linear.proofs.equalize_linear.Tie as tie
 
 sub-n : tie.Need-sub-n
 sub-n c =
