@@ -5,18 +5,15 @@ use mathlib.Core.Bool.{Bool, true, false, cond, not, _&&_, _||_}
 use native.Mathlib.Omega.{arith}
 use native.Mathlib.Nat.{mul-one, zero-mul}
 use lib.IntN.{ℤ}
-use lib.Dec.{T, ltb, eqb}
+use lib.Dec.{ltb, eqb}
 use borrow.Author.Tests.{le-ltb, ltb-true, ltb-false, eqb-true}
 use lib.Ieee.{Float, nan, inf, fin, ofBits, ofFields, odd, up, down, neg, lt, le, eq, below, level}
-use Rattle.laws.specs.Order.{le-yes}
+use Rattle.laws.specs.Order.{no-true, le-yes}
 use Rattle.types.specs.Bits.{zero32}
 use Rattle.definition.specs.Floats.{tiny, abs, flush, clip}
 
 abbrev pub size : Float → Float
 size v = cond (lt v zero32) (neg v) v
-
-no-true : {A : Type 0} → false ≡ true → A
-no-true h = absurd (subst T (sym h) tt)
 
 least : (a z : ℕ) → z ≡ 0 → z ≤ a
 least a z h = omega arith

@@ -1,3 +1,2 @@
--- Pair: the pair at phase 0. Bounds: the size of cosine and sine.
+-- Pair: the pair at phase 0.
 pub mod Pair
-pub mod Bounds

@@ -9,7 +9,7 @@ use native.Mathlib.Omega.{arith}
 use lib.Dec.{T, leb, eqb, eqb→eq, leb→le}
 use lib.ListN.{length, getD, take, drop, length-take, length-drop, length-reverse, List·getD-append, List·getD-eq-default}
 use lib.Seq.{getD-drop, getD-take, getD-append-add}
-use lib.Ieee.{Float, nan, inf, fin, binary32, ofBits, ofFields, nanBits, odd, up, down, lt, sub, neg, add, sum, round, units, size, span, climb}
+use lib.Ieee.{Float, nan, inf, fin, binary32, ofBits, ofFields, nanBits, odd, up, down, lt, neg, sum}
 use lib.Ieee.Fits.{and-l, and-r}
 use lib.Ieee.Exact.{HasValue}
 use lib.Count.{trailingZeros}
@@ -141,9 +141,6 @@ turned-at k h = elim (le-or-lt 1024 k) [
       ∙ ap (λ (n : ℕ). getD cosBits n 0) (swap k ∙ sym (mod-eq-of-lt (front-in k l)))
 ]
 
-more-in : (k : ℕ) → k < 4096 → k < 4097
-more-in k h = omega arith
-
 circle : (k : ℕ) → k < 4097
     → (squares (cosAt k) (cosAt ((k + 3072) % 4096)) ≤ 2 ^ 66 + 2 ^ 43) × (2 ^ 66 ≤ squares (cosAt k) (cosAt ((k + 3072) % 4096)) + 2 ^ 43)
 unfolding cosAt round-one
@@ -188,33 +185,7 @@ pub a-number : (k : ℕ) → k < 4097 → T (not (nanBits binary32 (getD cosBits
 unfolding number
 a-number k h = at number cosBits number-all k (in-table k h)
 
--- ---- 6. two neighbours differ by 2 ^ -9 at most, the difference rounded: the test computes 4,096 float subtractions
-unfoldable near : Float → Bool
-near nan = false
-near (inf s) = false
-near (fin s m e) = leb (m * up e * 2 ^ 149) (2 ^ 140 * down e)
-
-unfoldable near-bits : ℕ → ℕ → Bool
-near-bits x y = near (sub binary32 (ofBits binary32 y) (ofBits binary32 x))
-
-near-all : T (every2 near-bits cosBits (drop 1 cosBits))
-unfolding cosBits near-bits near ofBits ofFields odd trailingZeros sub neg add sum round units size span climb
-near-all = tt
-
-near-says : (x : Float) → T (near x) → AtMost binary32 (2 ^ 140) x
-unfolding near AtMost
-near-says nan t = t
-near-says (inf s) t = t
-near-says (fin s m e) t = leb→le (m * up e * 2 ^ 149) (2 ^ 140 * down e) t
-
-pub neighbours : (k : ℕ) → k < 4096 → AtMost binary32 (2 ^ 140) (sub binary32 (cosAt (1 + k)) (cosAt k))
-unfolding cosAt near-bits
-neighbours k h =
-    let b : k < length (drop 1 cosBits) = subst (λ (n : ℕ). k < n) (sym (length-drop 1 cosBits ∙ ap (λ (n : ℕ). n - 1) len)) h in
-    near-says (sub binary32 (cosAt (1 + k)) (cosAt k))
-    (subst (λ (n : ℕ). T (near-bits (getD cosBits k 0) n)) (getD-drop 1 cosBits k 0) (at2 near-bits cosBits (drop 1 cosBits) near-all k (in-table k (more-in k h)) b))
-
--- ---- 7. half a turn further on the sign is the opposite, in the first quarter
+-- ---- 6. half a turn further on the sign is the opposite, in the first quarter
 opposite-all : map (ofBits binary32) (take 1024 (drop 2048 cosBits)) ≡ map (λ (x : ℕ). neg (ofBits binary32 x)) (take 1024 cosBits)
 unfolding cosBits ofBits ofFields odd trailingZeros neg
 opposite-all = refl
