@@ -18,6 +18,7 @@ pub mod Sample
 pub mod Rules
 pub mod Run
 pub mod Calls
+pub mod Paths
 pub mod Packed
 pub mod Rows
 pub mod Examples

@@ -12,14 +12,8 @@ use Rattle.definition.specs.Rules.{rules}
 use Rattle.definition.specs.Run.{Run, runDef, written, symbolParts, markByte}
 use Rattle.definition.specs.Calls.{lengthsOf, verdictDef, Answer, answerBy, equalizeDef}
 use Rattle.definition_laws.proofs.Runs.{run-append, written-append}
-use Rattle.demands.specs.Traces.{Path, plain, quick, joint, Call, callDef, Promised, Observed, Follow, none, next, samples, symbols, marks, left}
+use Rattle.demands.specs.Traces.{Call, callDef, Observed, Follow, none, next, samples, symbols, marks, left}
 use Rattle.demands.specs.Cut.{OneRun, CallsAreOneRun, AnyCut}
-
--- all three paths promise the definition
-pub kept : (p : Path) (q : Equalizer) (c : Call) (a : Answer) → Promised p q c a → a ≡ callDef q c
-kept plain q c a h = h
-kept quick q c a h = h
-kept joint q c a h = h
 
 by-verdict : (q : Equalizer) (c : Call) → callDef q c ≡ answerBy (verdictDef (rules q) (lengthsOf q (c .input) (c .output) (c .marks))) q (c .input) (c .output) (c .marks)
 unfolding equalizeDef
@@ -52,7 +46,7 @@ pub calls-are-one-run : CallsAreOneRun
 unfolding samples symbols marks left runDef written
 calls-are-one-run q [] none = record { symbols = refl; marks = refl; left = refl }
 calls-are-one-run q (o ∷ os) (next b l p f) =
-    first q o os (verdictDef (rules q) (lengthsOf q (o .call .input) (o .call .output) (o .call .marks))) (kept (o .call .path) q (o .call) (o .answer) p ∙ by-verdict q (o .call))
+    first q o os (verdictDef (rules q) (lengthsOf q (o .call .input) (o .call .output) (o .call .marks))) (p ∙ by-verdict q (o .call))
     (calls-are-one-run (o .answer .equalizer) os f)
 
 pub any-cut : AnyCut

@@ -4,5 +4,6 @@ pub mod Cut
 pub mod Blanks
 pub mod Dropout
 pub mod Spill
+pub mod Sharp
 pub mod Made
 pub mod Meets

@@ -11,12 +11,7 @@ use Rattle.types.specs.declared.Outcome.the-variants.{Served, Refused}
 use Rattle.definition.specs.Slices.{samplesOf}
 use Rattle.definition.specs.Sample.{Equalizer, feedback}
 use Rattle.definition.specs.Calls.{Answer, equalizeDef}
-
--- "each by the plain path or by the quick or joint one that its taps allow"
-pub data Path : Type 0 where
-  plain : Path
-  quick : Path
-  joint : Path
+use Rattle.definition.specs.Paths.{Path, plain, quick, joint, Promised}
 
 -- the quick path without feedback taps, the joint path with them, the plain path either way
 abbrev pub allows : Path → Equalizer → Bool
@@ -34,13 +29,6 @@ pub record Call : Type 0 where
 abbrev pub callDef : Equalizer → Call → Answer
 callDef q c = equalizeDef q (c .input) (c .output) (c .marks)
 
--- What the function of each path promises of its answer, and of all that it was handed: `reference::equalize` the plain path, `equalize` the quick
--- path and the joint path. The same of all three.
-abbrev pub Promised : Path → Equalizer → Call → Answer → Type 0
-Promised plain q c a = a ≡ callDef q c
-Promised quick q c a = a ≡ callDef q c
-Promised joint q c a = a ≡ callDef q c
-
 -- a call as it was seen: what it was handed, and what it answered and left
 pub record Observed : Type 0 where
   pub before : Equalizer
@@ -51,7 +39,7 @@ pub record Observed : Type 0 where
 -- All counts by its value, so another call may come between if it leaves them as they were.
 pub data Follow : Equalizer → List Observed → Type 0 where
   none : {q : Equalizer} → Follow q []
-  next : {q : Equalizer} {o : Observed} {os : List Observed} → o .before ≡ q → allows (o .call .path) q ≡ true → Promised (o .call .path) q (o .call) (o .answer)
+  next : {q : Equalizer} {o : Observed} {os : List Observed} → o .before ≡ q → allows (o .call .path) q ≡ true → Promised (o .call .path) q (o .call .input) (o .call .output) (o .call .marks) (o .answer)
       → Follow (o .answer .equalizer) os → Follow q (o ∷ os)
 
 -- "A list's samples, symbols and marks are those of its served calls, joined in order; a refused call adds none."

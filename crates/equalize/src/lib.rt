@@ -6,11 +6,10 @@ use types::Outcome;
 
 pub mod reference;
 
-ghost use mathlib.Core.Path.{_≡_};
 ghost use Rattle.definition.specs.Slices.{samplesOf};
 ghost use Rattle.definition.specs.Packed.{equalizer, answered, ServedBlock, Ran};
 ghost use Rattle.definition.specs.Run.{runDef};
-ghost use Rattle.definition.specs.Calls.{equalizeDef};
+ghost use Rattle.definition.specs.Paths.{byTaps, Promised};
 
 // The least block that goes in runs, without feedback taps; a shorter one goes sample by sample. A matter of speed alone, since both ways give the same:
 // a run has a start to pay, which takes the more samples to earn back the fewer the taps are (docs/PERFORMANCE.md).
@@ -126,8 +125,8 @@ pub fn equalize(
     output: &mut [f32],
     marks: &mut [u8],
 ) -> Equalized
-    ensures { λ r. ⌜ answered r (now (weights .exit)) (now (window .exit)) (now (output .exit)) (now (marks .exit))
-        ≡ equalizeDef (equalizer state (now (weights .entry)) (now (window .entry))) (now (input .entry)) (now (output .entry)) (now (marks .entry)) ⌝ }
+    ensures { λ r. ⌜ Promised (byTaps (equalizer state (now (weights .entry)) (now (window .entry)))) (equalizer state (now (weights .entry)) (now (window .entry))) (now (input .entry)) (now (output .entry)) (now (marks .entry))
+        (answered r (now (weights .exit)) (now (window .exit)) (now (output .exit)) (now (marks .exit))) ⌝ }
 {
     let v = record_verdict::verdict(
         state,

@@ -2,9 +2,8 @@
 use types::EqualizeState;
 use types::Equalized;
 use types::Outcome;
-ghost use mathlib.Core.Path.{_≡_};
 ghost use Rattle.definition.specs.Packed.{equalizer, answered};
-ghost use Rattle.definition.specs.Calls.{equalizeDef};
+ghost use Rattle.definition.specs.Paths.{plain, Promised};
 
 // A block of samples by the plain path, or a refusal that leaves all as it was.
 pub fn equalize(
@@ -15,8 +14,8 @@ pub fn equalize(
     output: &mut [f32],
     marks: &mut [u8],
 ) -> Equalized
-    ensures { λ r. ⌜ answered r (now (weights .exit)) (now (window .exit)) (now (output .exit)) (now (marks .exit))
-        ≡ equalizeDef (equalizer state (now (weights .entry)) (now (window .entry))) (now (input .entry)) (now (output .entry)) (now (marks .entry)) ⌝ }
+    ensures { λ r. ⌜ Promised plain (equalizer state (now (weights .entry)) (now (window .entry))) (now (input .entry)) (now (output .entry)) (now (marks .entry))
+        (answered r (now (weights .exit)) (now (window .exit)) (now (output .exit)) (now (marks .exit))) ⌝ }
 {
     let v = record_verdict::verdict(
         state,
