@@ -1,5 +1,6 @@
 -- THE EXPORTED CALLS, whole: what each replies and leaves, from the record as numbers (capi_numbers).
 use Prim.Native.Nat.{ℕ}
+use mathlib.Core.Path.{_≡_}
 use mathlib.Core.Bool.{true, cond, _&&_}
 use mathlib.Core.List.{List}
 use lib.ListN.{length}
@@ -69,3 +70,13 @@ equalizeRaw r w h xs ys ms =
     cond (knownRecord r)
     (blockOut (equalizeDef (equalizer (recordIn r) w h) xs ys ms))
     (block (replied r (unknown (even (length w) && even (length h) && even (length xs) && even (length ys)))) w h ys ms)
+
+-- ---- what the two exported equalizing calls promise: their contracts are `PromisedRaw`
+
+pub data Entry : Type 0 where
+  «eq_reference» : Entry
+  «eq_equalize» : Entry
+
+-- b is the reply, and the later content of all that the call was handed. The same of both.
+abbrev pub PromisedRaw : Entry → EqRecord → List Float → List Float → List Float → List Float → List ℕ → Block → Type 0
+PromisedRaw entry r w h xs ys ms b = b ≡ equalizeRaw r w h xs ys ms

@@ -13,7 +13,7 @@ use capi_numbers::served;
 use capi_numbers::settings_in;
 use capi_numbers::unknown;
 ghost use mathlib.Core.Path.{_≡_};
-ghost use Rattle.capi.specs.Raw.{filter, newRaw, resetRaw, setMuCmaRaw, setMuDdRaw, setFrequencyRaw, block, equalizeRaw};
+ghost use Rattle.capi.specs.Raw.{filter, newRaw, resetRaw, setMuCmaRaw, setMuDdRaw, setFrequencyRaw, block, «eq_reference», «eq_equalize», PromisedRaw};
 
 // A new equalizer: weights and window are set. Refusals 1 to 8; the record is then all zeros.
 #[no_mangle]
@@ -93,8 +93,8 @@ pub extern "C" fn eq_equalize(
     output: &mut [f32],
     marks: &mut [u8],
 ) -> EqReply
-    ensures { λ r. ⌜ block r (now (weights .exit)) (now (window .exit)) (now (output .exit)) (now (marks .exit))
-        ≡ equalizeRaw raw (now (weights .entry)) (now (window .entry)) (now (input .entry)) (now (output .entry)) (now (marks .entry)) ⌝ }
+    ensures { λ r. ⌜ PromisedRaw «eq_equalize» raw (now (weights .entry)) (now (window .entry)) (now (input .entry)) (now (output .entry)) (now (marks .entry))
+        (block r (now (weights .exit)) (now (window .exit)) (now (output .exit)) (now (marks .exit))) ⌝ }
 {
     if !known_record(raw) {
         return unknown(
@@ -117,8 +117,8 @@ pub extern "C" fn eq_reference(
     output: &mut [f32],
     marks: &mut [u8],
 ) -> EqReply
-    ensures { λ r. ⌜ block r (now (weights .exit)) (now (window .exit)) (now (output .exit)) (now (marks .exit))
-        ≡ equalizeRaw raw (now (weights .entry)) (now (window .entry)) (now (input .entry)) (now (output .entry)) (now (marks .entry)) ⌝ }
+    ensures { λ r. ⌜ PromisedRaw «eq_reference» raw (now (weights .entry)) (now (window .entry)) (now (input .entry)) (now (output .entry)) (now (marks .entry))
+        (block r (now (weights .exit)) (now (window .exit)) (now (output .exit)) (now (marks .exit))) ⌝ }
 {
     if !known_record(raw) {
         return unknown(
