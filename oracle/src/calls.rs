@@ -7,7 +7,9 @@ use crate::Reference;
 use crate::cases::{Case, case, stream};
 use crate::inputs::Random;
 use crate::kernels::dot::DotComplex;
-use crate::kernels::equalize::{EqMode, Equalize, EqualizeState, OracleRecord, equalize_with};
+use crate::kernels::equalize::{
+    EqMode, Equalize, EqualizeState, MSE_ALPHA, OracleRecord, equalize_with,
+};
 use crate::line::{Line, bits};
 use crate::reference::dot::Document01Dot;
 use crate::types::C32;
@@ -29,8 +31,12 @@ struct Seen {
     output_infinite: u64,
     error_power_infinite: u64,
     silent: u64,
+    power_infinite: u64,
     switches: u64,
     weights_set_back: u64,
+    weights_flushed: u64,
+    mse_flushed: u64,
+    freq_flushed: u64,
     mse_not_finite: u64,
     no_samples: u64,
     two_calls: u64,
@@ -153,11 +159,36 @@ fn sample_by_sample(case: &Case, seen: &mut Seen) -> (Answer, Vec<u8>) {
         let size = z[0].re.abs().max(z[0].im.abs());
         seen.output_infinite += u64::from(size.is_infinite());
         seen.error_power_infinite += u64::from(size > 2e19);
-        seen.silent += u64::from(mark == 0 && !powered(&a.state));
         seen.switches += u64::from(before.mode() == EqMode::Cma && a.state.mode() != EqMode::Cma);
-        seen.weights_set_back += u64::from(set_back(&before, &a.state));
+        if mark == 0 {
+            heard(&before, z[0], &a.state, seen);
+        }
     }
     (a, marks)
+}
+
+/// What a sample with the output z did.
+fn heard(before: &State, z: C32, after: &State, seen: &mut Seen) {
+    let (power, back) = (power(after), set_back(before, after));
+    seen.silent += u64::from(power == 0.0);
+    seen.power_infinite += u64::from(power.is_infinite());
+    seen.weights_set_back += u64::from(back);
+    seen.weights_flushed += u64::from(!back && fallen(before.weights(), after.weights()));
+    let (r, d) = (before.oracle_record(), before.constellation().decide(z));
+    let (re, im) = (z.re - d.re, z.im - d.im);
+    seen.mse_flushed += u64::from(low(r.mse + MSE_ALPHA * (re * re + im * im - r.mse)));
+    seen.freq_flushed += u64::from(low(r.freq + r.ki * (z.im * d.re - z.re * d.im)));
+}
+
+/// Whether a flush changes it.
+fn low(x: f32) -> bool {
+    x != 0.0 && x.abs() < 1e-30
+}
+
+/// Whether a part of a weight became 0.
+fn fallen(before: &[C32], after: &[C32]) -> bool {
+    let mut pairs = before.iter().zip(after);
+    pairs.any(|(a, b)| a.re != 0.0 && b.re == 0.0 || a.im != 0.0 && b.im == 0.0)
 }
 
 /// The mark of a sample, from the states before and after it. The sum takes the forward window
@@ -179,10 +210,10 @@ fn mark(before: &State, x: C32, after: &State) -> u8 {
     }
 }
 
-/// Whether the forward window has a power.
-fn powered(s: &State) -> bool {
-    let mut forward = s.history()[..s.taps()].iter();
-    forward.any(|h| h.re * h.re + h.im * h.im != 0.0)
+/// The power of the forward window.
+fn power(s: &State) -> f32 {
+    let forward = s.history()[..s.taps()].iter();
+    forward.map(|h| h.re * h.re + h.im * h.im).sum()
 }
 
 /// Whether the weights became those of the start.

@@ -1,6 +1,6 @@
 //! What whole calls are tried on: accepted records, weights, windows and samples, seeded.
 
-use crate::inputs::{Random, around, few_edges, power_of_two};
+use crate::inputs::{Random, around, around_f64, few_edges, power_of_two};
 use crate::kernels::equalize::{EqConstellation, EqMode, EqParams, EqualizeState, OracleRecord};
 use crate::types::C32;
 
@@ -53,8 +53,10 @@ pub fn stream(r: &mut Random, length: usize) -> Case {
 
 /// An accepted case.
 pub fn case(r: &mut Random, long: bool) -> Case {
-    if r.below(32) == 0 {
-        return brink(r);
+    match r.below(32) {
+        0 | 1 => return still(r),
+        31 => return brink(r),
+        _ => {}
     }
     let (forward, feedback) = sizes(r);
     let blocks = blocks(r, long);
@@ -90,6 +92,61 @@ fn brink(r: &mut Random) -> Case {
         blocks,
         input: (0..blocks[0] + blocks[1]).map(|_| small(r)).collect(),
     }
+}
+
+/// A case that stands still: the phase is a quarter turn or none, and the samples are points, but
+/// for parts too small to count. `mse`, the frequency and the weights are about to be flushed.
+/// Many have one sample, so that its outcome is seen, or 64, so that most go in runs.
+fn still(r: &mut Random) -> Case {
+    let (forward, feedback) = sizes(r);
+    let some = blocks(r, false);
+    let blocks = r.pick(&[some, [1, 0], [64, 0]]);
+    let length = blocks[0] + blocks[1];
+    let any = r.pick(&CONSTELLATIONS);
+    let k = r.pick(&[EqConstellation::Bpsk, any]);
+    let params = EqParams {
+        constellation: k,
+        ..params(r, feedback, length as u32)
+    };
+    let quarter = r.pick(&[0, 0, 0, 1, 2, 3]);
+    let small = power_of_two(-110 + r.below(40) as i32);
+    let off = r.pick(&[0.0, small]);
+    let sample = |r: &mut Random| {
+        let d = k.decide(C32::new(r.within(1.2), r.within(1.2)));
+        let x = C32::new(d.re + r.within(off), d.im + r.within(off));
+        match quarter {
+            0 => x,
+            1 => C32::new(-x.im, x.re),
+            2 => C32::new(-x.re, -x.im),
+            _ => C32::new(x.im, -x.re),
+        }
+    };
+    let taps = forward + feedback;
+    let part = |r: &mut Random| if r.below(2) == 0 { 0.0 } else { low(r) };
+    let real = |r: &mut Random, i| if i == forward / 2 { 1.0 } else { part(r) };
+    Case {
+        record: OracleRecord {
+            mse: low(r),
+            phase: quarter << 30,
+            freq: part(r),
+            ..record(r, params, length as u32)
+        },
+        weights: (0..taps).map(|i| C32::new(real(r, i), part(r))).collect(),
+        window: (0..taps).map(|_| sample(r)).collect(),
+        blocks,
+        input: (0..length).map(|_| sample(r)).collect(),
+    }
+}
+
+/// A number of either sign just above 1e-30, where the flush begins. Of `mse`, what is below
+/// 1.010101e-30 is flushed by the next sample without an error.
+fn low(r: &mut Random) -> f32 {
+    let size = match r.below(4) {
+        0 => r.pick(&[1e-30, around(1e-30)[2]]),
+        1 | 2 => r.pick(&around(1.010_101e-30)),
+        _ => 1e-30 + r.within(2.5e-31).abs(),
+    };
+    r.pick(&[size, size, -size])
 }
 
 /// Forward and feedback taps: mostly few.
@@ -159,8 +216,8 @@ pub fn bandwidth(r: &mut Random) -> f64 {
     match r.below(8) {
         0 => 0.0,
         1 => -0.0,
-        2 => 0.0001,
-        3 => 0.2,
+        2 => r.pick(&[0.0001, around_f64(0.0001)[2]]),
+        3 => r.pick(&[0.2, around_f64(0.2)[0]]),
         4 => 0.02,
         _ => 0.0001 + 0.1999 * (r.below(1 << 40) as f64 / (1u64 << 40) as f64),
     }
@@ -182,7 +239,7 @@ fn record(r: &mut Random, params: EqParams, length: u32) -> OracleRecord {
         0 => (EqMode::Decision, 0),
         u32::MAX => (EqMode::Cma, 0),
         _ if r.below(4) == 0 => (EqMode::Decision, total),
-        _ if r.below(8) == 0 => (EqMode::Cma, 0),
+        _ if r.below(8) == 0 => (EqMode::Cma, r.pick(&[0, total - 1])),
         _ => {
             let left = 1 + r.below(u64::from(length) + 2) as u32;
             (EqMode::Cma, total.saturating_sub(left))
@@ -207,6 +264,8 @@ pub fn mean_error(r: &mut Random) -> f32 {
             f32::from_bits(0x807f_ffff),
             1e-30,
             -1e-30,
+            around(1e-30)[0],
+            around(1e-30)[2],
         ]),
         3 => r.f32(),
         4 => -r.within(2.0).abs(),
@@ -216,7 +275,8 @@ pub fn mean_error(r: &mut Random) -> f32 {
 }
 
 pub fn phase(r: &mut Random) -> u32 {
-    let entry = (r.below(4096) as u32) << 20;
+    let any = r.below(4096) as u32;
+    let entry = r.pick(&[any, any, any & 0xc00, 1]) << 20;
     match r.below(8) {
         0 => 0,
         1 => r.pick(&[1, u32::MAX, 1 << 30, 1 << 31, 3 << 30]),
@@ -230,8 +290,8 @@ pub fn phase(r: &mut Random) -> u32 {
 pub fn frequency(r: &mut Random) -> f32 {
     let x = match r.below(8) {
         0..3 => 0.0,
-        3 => r.pick(&[1e-30, -1e-30, around(1e-30)[2]]),
-        4 => r.pick(&[0.125, -0.125, around(0.125)[0]]),
+        3 => r.pick(&[1e-30, around(1e-30)[2]]) * r.pick(&[1.0, -1.0]),
+        4 => r.pick(&[0.125, around(0.125)[0]]) * r.pick(&[1.0, -1.0]),
         5 => r.within(1e-4),
         _ => r.within(0.125),
     };
@@ -252,7 +312,8 @@ fn weights(r: &mut Random, forward: usize, taps: usize) -> Vec<C32> {
     let part = |r: &mut Random| -> f32 {
         let x = match r.below(16) {
             0 => 0.0,
-            1 => r.pick(&[1e-30, -1e-30]),
+            1 => r.pick(&[1e-30, -1e-30, around(1e-30)[2]]),
+            2 => r.pick(&[size, -size]),
             _ if size == 1e-30 => r.within(4e-30),
             _ if size > 1e10 => size * (1.0 - r.within(0.5).abs()) * r.pick(&[1.0, -1.0]),
             _ => r.within(size),
@@ -321,7 +382,7 @@ fn huge(r: &mut Random) -> f32 {
 
 fn faint(r: &mut Random) -> f32 {
     match r.below(5) {
-        0 => r.pick(&[0.0, -0.0]),
+        0 => r.pick(&[0.0, -0.0, 1e-30, -1e-30]),
         1 => f32::from_bits(r.digits(23) as u32),
         2 => -f32::from_bits(r.digits(23) as u32),
         _ => sized(r, -126, 60),

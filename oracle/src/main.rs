@@ -13,6 +13,7 @@ mod inputs;
 mod leaves;
 mod line;
 mod others;
+mod recording;
 
 use std::fs::File;
 use std::io::{self, BufWriter, Write};
@@ -23,6 +24,7 @@ const USAGE: &str = "usage: oracle leaves OUT_FOLDER
        oracle calls SEED COUNT [--long] [FILE]
        oracle places SEED ROUNDS [FILE]
        oracle others SEED COUNT [FILE]
+       oracle demo RECORDING [FILE]
        oracle bench [SECONDS]      (with the feature bench)";
 
 fn main() -> ExitCode {
@@ -53,6 +55,9 @@ fn run(words: &[&str]) -> io::Result<bool> {
         }
         ["others", seed, count, ref file @ ..] if file.len() < 2 => {
             others::write(&mut out(file)?, whole(seed)?, whole(count)?).map(|()| true)
+        }
+        ["demo", recording, ref file @ ..] if file.len() < 2 => {
+            recording::write(&mut File::open(recording)?, &mut out(file)?).map(|()| true)
         }
         #[cfg(feature = "bench")]
         ["bench"] => bench::write(&mut io::stdout(), 1),

@@ -74,9 +74,24 @@ fn line(case: &Case, answer: &Answer) -> Line {
 
 // ---- the cases ----
 
-/// Any patterns, NaNs among them.
+/// Any pattern, NaNs among them, or an edge.
+fn some_float(r: &mut Random) -> f32 {
+    match r.below(4) {
+        0 => r.pick(&edges()),
+        _ => r.f32(),
+    }
+}
+
+fn some_whole(r: &mut Random) -> u32 {
+    match r.below(4) {
+        0 => r.pick(&[0, 1, u32::MAX - 1, u32::MAX]),
+        _ => (r.word() >> 24) as u32,
+    }
+}
+
 fn any(r: &mut Random, taps: usize) -> Vec<C32> {
-    (0..taps).map(|_| C32::new(r.f32(), r.f32())).collect()
+    let value = |r: &mut Random| C32::new(some_float(r), some_float(r));
+    (0..taps).map(|_| value(r)).collect()
 }
 
 /// The settings of a record whose other fields are 0: what `new` is handed.
@@ -162,10 +177,10 @@ fn any_record(r: &mut Random, feedback: usize) -> OracleRecord {
     let params = cases::params(r, feedback, 20);
     OracleRecord {
         mode: r.pick(&[EqMode::Cma, EqMode::Decision]),
-        count: (r.word() >> 24) as u32,
+        count: some_whole(r),
         mse: cases::mean_error(r),
         phase: cases::phase(r),
-        freq: r.f32(),
+        freq: some_frequency(r),
         ..cases::fresh(params)
     }
 }
@@ -190,14 +205,14 @@ fn setter(r: &mut Random, operation: u32) -> Case {
     if r.below(4) == 0 {
         record.params = EqParams {
             constellation: r.pick(&CONSTELLATIONS),
-            feedback_taps: r.below(1 << 32) as usize,
-            mu_cma: r.f32(),
-            mu_dd: r.f32(),
-            cma_symbols: (r.word() >> 24) as u32,
+            feedback_taps: some_whole(r) as usize,
+            mu_cma: some_step_size(r),
+            mu_dd: some_step_size(r),
+            cma_symbols: some_whole(r),
             phase_bw: some_bandwidth(r),
         };
-        record.kp = r.f32();
-        record.ki = r.f32();
+        record.kp = some_float(r);
+        record.ki = some_float(r);
     }
     let argument = match operation {
         SET_FREQUENCY => some_frequency(r),

@@ -6,11 +6,9 @@ use mathlib.Core.List.{List, [], _∷_, _++_, map}
 use lib.Dec.{eqb}
 use lib.Ieee.{Float}
 use Rattle.types.specs.declared.EqualizeState.{EqualizeState}
-use Rattle.types.specs.declared.Error.{Error}
-use Rattle.types.specs.declared.Error.the-variants.{Odd, Feedback, Taps, Window, MuCma, MuDd, Bandwidth, Record, Output, Marks}
 use Rattle.types.specs.declared.Outcome.{Outcome}
 use Rattle.types.specs.declared.Outcome.the-variants.{Served, Refused}
-use Rattle.types_numbers.specs.Numbers.{errorNumber}
+use Rattle.types_numbers.proofs.Numbered.{not-zero}
 use Rattle.definition.specs.Slices.{samplesOf}
 use Rattle.definition.specs.Sample.{Equalizer, feedback}
 use Rattle.definition.specs.Rules.{rules, acceptedDef}
@@ -74,18 +72,6 @@ unfolding equalizeRaw equalizerOf
 known-block k xs ys ms h = rw h
 
 -- ---- served is number 0
-
-not-zero : (e : Error) → eqb (errorNumber e) 0 ≡ false
-not-zero Odd = refl
-not-zero Feedback = refl
-not-zero Taps = refl
-not-zero (Window x y) = refl
-not-zero MuCma = refl
-not-zero MuDd = refl
-not-zero Bandwidth = refl
-not-zero Record = refl
-not-zero (Output x y) = refl
-not-zero (Marks x y) = refl
 
 served-is : {A : Type 0} (a : Answer) (q : Equalizer) (xs ys : List Float) (ms : List ℕ) (v : Outcome) (l : List A) → a ≡ answerBy v q xs ys ms
     → ifServed (blockOut a .filter .reply .number) l ≡ def.ifServed (a .outcome) l

@@ -7,11 +7,10 @@ use lib.Dec.{eqb}
 use borrow.Author.Tests.{eqb-true}
 use lib.Ieee.{isNan, ofBits, ofFields, lt, eq, le}
 use Rattle.definition.specs.Refusals.{firstOf}
-use Rattle.types_numbers.specs.Numbers.{known, caseOf, modeNumber, modes, knownMode, modeOf, constellationNumber, constellations, knownConstellation, constellationOf}
-use Rattle.types.specs.declared.EqMode.{EqMode}
-use Rattle.types.specs.declared.EqMode.the-variants.{Cma, Decision}
-use Rattle.types.specs.declared.EqConstellation.{EqConstellation}
-use Rattle.types.specs.declared.EqConstellation.the-variants.{Bpsk, Qpsk, Psk8, Qam16, Qam64}
+use Rattle.types_numbers.specs.Numbers.{known, caseOf, modeNumber, modes, knownMode, constellationNumber, constellations}
+use Rattle.types_numbers.proofs.Numbered.{mode-known, mode-back, constellation-known, constellation-back}
+use Rattle.types.specs.declared.EqMode.the-variants.{Decision}
+use Rattle.types.specs.declared.EqConstellation.the-variants.{Qam64}
 use Rattle.types.specs.declared.EqualizeState.{EqualizeState}
 use Rattle.definition.specs.Rules.{muFits, ruleR2}
 use Rattle.definition_laws.proofs.Verdicts.{both, and-true}
@@ -36,31 +35,9 @@ kept r h =
     rw (known-back constellationNumber constellations Qam64 (r .settings .constellation) (p .0), known-back modeNumber modes Decision (r .mode) (p .1))
 
 -- a record out and in again, whose numbers are known: what a call replies can be handed to the next
-mode-known : (m : EqMode) → knownMode (modeNumber m) ≡ true
-mode-known Cma = refl
-mode-known Decision = refl
-
-constellation-known : (k : EqConstellation) → knownConstellation (constellationNumber k) ≡ true
-constellation-known Bpsk = refl
-constellation-known Qpsk = refl
-constellation-known Psk8 = refl
-constellation-known Qam16 = refl
-constellation-known Qam64 = refl
-
 pub out-known : (s : EqualizeState) → knownRecord (recordOut s) ≡ true
 unfolding knownSettings knownRecord settingsOut recordOut
 out-known s = and-true _ _ (constellation-known (s .params .constellation)) (mode-known (s .mode))
-
-mode-back : (m : EqMode) → modeOf (modeNumber m) ≡ m
-mode-back Cma = refl
-mode-back Decision = refl
-
-constellation-back : (k : EqConstellation) → constellationOf (constellationNumber k) ≡ k
-constellation-back Bpsk = refl
-constellation-back Qpsk = refl
-constellation-back Psk8 = refl
-constellation-back Qam16 = refl
-constellation-back Qam64 = refl
 
 pub out-in : (s : EqualizeState) → recordIn (recordOut s) ≡ s
 unfolding settingsIn recordIn settingsOut recordOut

@@ -4,6 +4,7 @@ use mathlib.Core.Bool.{true}
 use Rattle.definition.specs.Rows.{bitsOf, stateBits, sameEqualizer, settingsOf, settings, settingsWith, stateOf}
 use Rattle.definition.specs.Examples.{examplesPass}
 use Rattle.definition.specs.Refused.{refusalsPass}
+use Rattle.definition.specs.Samples.{samplesPass}
 use Rattle.definition.specs.Constants.{constantsPass}
 use Rattle.definition.specs.Edges.{edgesPass}
 use Rattle.definition.proofs.Computed.{computed}
@@ -18,6 +19,11 @@ pub refusals-pass : refusalsPass ≡ true
 unfolding computed bitsOf stateBits sameEqualizer settingsOf settings settingsWith stateOf refusalsPass
 refusals-pass = refl
 
+-- one sample whole
+pub samples-pass : samplesPass ≡ true
+unfolding computed bitsOf stateBits sameEqualizer settingsOf settings stateOf samplesPass
+samples-pass = refl
+
 -- the constants against their decimals and roots
 pub constants-pass : constantsPass ≡ true
 unfolding computed constantsPass
@@ -25,5 +31,5 @@ constants-pass = refl
 
 -- the leaves at their edges
 pub edges-pass : edgesPass ≡ true
-unfolding computed bitsOf edgesPass
+unfolding computed bitsOf settingsOf settings stateOf edgesPass
 edges-pass = refl

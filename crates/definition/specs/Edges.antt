@@ -11,6 +11,7 @@ use Rattle.types.specs.declared.C32.{C32}
 use Rattle.types.specs.declared.EqMode.the-variants.{Cma, Decision}
 use Rattle.types.specs.declared.EqConstellation.the-variants.{Bpsk, Qpsk, Psk8, Qam16, Qam64}
 use Rattle.types.specs.declared.Qam.the-variants as qam
+use Rattle.types.specs.declared.EqualizeState.{EqualizeState}
 use Rattle.types.specs.declared.Update.{Update}
 use Rattle.types.specs.declared.Update.the-variants.{Step, Hold}
 use Rattle.types.specs.Bits.{f32, f64}
@@ -20,9 +21,9 @@ use Rattle.definition.specs.Gains.{phaseDamping, gainKp, gainKi}
 use Rattle.definition.specs.Phase.{cosSin, interpPair, phaseStep}
 use Rattle.definition.specs.Points.{octant, levelOf, decide}
 use Rattle.definition.specs.Turns.{derotated, rotated}
-use Rattle.definition.specs.Sample.{sanitized, mseAfter, errorOf, fedOf, stepSize, live, updateOf, adapted, phaseError}
+use Rattle.definition.specs.Sample.{sanitized, mseAfter, errorOf, fedOf, stepSize, live, updateOf, adapted, phaseError, freqAfter}
 use Rattle.definition.specs.Rules.{tapsFit, feedbackFits, muFits, bwFits, weightFits, freqFits, countFits}
-use Rattle.definition.specs.Rows.{same, bitsOf}
+use Rattle.definition.specs.Rows.{same, bitsOf, settings, stateOf}
 
 abbrev yes : Bool → Bool → Bool
 yes true b = b
@@ -83,6 +84,10 @@ rangeRows =
     ∷ bits (gainKp (f64 0) phaseDamping) 0 ∷ bits (gainKi (f64 0) phaseDamping) 0
     ∷ bits (gainKp (f64 0x8000_0000_0000_0000) phaseDamping) 0x8000_0000 ∷ bits (gainKi (f64 0x8000_0000_0000_0000) phaseDamping) 0
     ∷ bits (gainKp (f64 0x3f94_7ae1_47ae_147b) phaseDamping) 0x3c07_6966 ∷ bits (gainKi (f64 0x3f94_7ae1_47ae_147b) phaseDamping) 0x3967_1b0a
+    -- kp: the first is one f32 off if divided by d·TAU at once, or by 1 + (2 damping theta + theta theta); the second if divided by TAU before d
+    ∷ bits (gainKp (f64 0x3f62_358b_166f_3ea6) phaseDamping) 0x3a76_91b2 ∷ bits (gainKp (f64 0x3f78_fb1f_49da_f642) phaseDamping) 0x3b28_42cf
+    -- ki: the first is one f32 off if divided by d·TAU at once, or by TAU before d; the second if divided by that other d
+    ∷ bits (gainKi (f64 0x3f8b_7dfc_bf2f_bed1) phaseDamping) 0x38d2_0f84 ∷ bits (gainKi (f64 0x3f43_e92b_2cf9_8abf) phaseDamping) 0x3460_28c2
     -- weights: +0, -0, 1e-30 and the f32 below, the infinity, NaN
     ∷ yes (weightFits (f32 0)) true ∷ yes (weightFits (f32 0x8000_0000)) false ∷ yes (weightFits (f32 0x0da2_4260)) true ∷ yes (weightFits (f32 0x0da2_425f)) false
     ∷ yes (weightFits (f32 0x8da2_4260)) true ∷ yes (weightFits (f32 0x7f7f_ffff)) true ∷ yes (weightFits (inf true)) false ∷ yes (weightFits nan) false
@@ -155,6 +160,10 @@ unfoldable held : Update → Bool
 held Hold = true
 held (Step a b) = false
 
+-- a record with this freq and this ki
+unfoldable tracker : ℕ → ℕ → EqualizeState
+tracker freqBits kiBits = stateOf (settings 0 1000) 0 kiBits Cma 0 0x3f80_0000 0 freqBits
+
 unfoldable stepRows : List Bool
 stepRows =
     -- step 1: both parts become 0 where one is not finite
@@ -167,26 +176,32 @@ stepRows =
     -- step 4: mse moves by 0.01, is flushed, and stays where pe is not finite
     ∷ bits (mseAfter (f32 0x3f80_0000) (f32 0)) 0x3f7d_70a4 ∷ bits (mseAfter (f32 0x0da2_4260) (f32 0)) 0 ∷ bits (mseAfter (f32 0x3f80_0000) (inf false)) 0x3f80_0000
     ∷ bits (mseAfter (f32 0x3f80_0000) nan) 0x3f80_0000 ∷ bits (mseAfter nan (f32 0)) 0x7fc0_0000
-    -- step 5: Godard's error clipped to ±1: y = 2 gives 2·(4 - 1), y = 0.5 gives -0.375; nothing is fed back in Cma
+    -- step 5: Godard's error clipped to ±1: y = 2 gives 2·(4 - 1), y = 0.5 gives -0.375, ±2i gives ±i; nothing is fed back in Cma
     ∷ bitsC (errorOf Cma Qpsk (c 0x4000_0000 0x8000_0000) (c 0 0) (cosSin 0)) 0x3f80_0000 0x8000_0000 ∷ bitsC (errorOf Cma Qpsk (c 0x3f00_0000 0) (c 0 0) (cosSin 0)) 0xbec0_0000 0x8000_0000
+    ∷ bitsC (errorOf Cma Qpsk (c 0 0x4000_0000) (c 0 0) (cosSin 0)) 0 0x3f80_0000 ∷ bitsC (errorOf Cma Qpsk (c 0 0xc000_0000) (c 0 0) (cosSin 0)) 0 0xbf80_0000
     ∷ bitsC (errorOf Decision Qpsk (c 0 0) (c 0x3f80_0000 0x4000_0000) (cosSin 0x4000_0000)) 0xc000_0000 0x3f80_0000
     ∷ bitsC (fedOf Cma (c 0x3f80_0000 0x3f80_0000) (cosSin 0)) 0 0 ∷ bitsC (fedOf Decision (c 0x3f80_0000 0x4000_0000) (cosSin 0x4000_0000)) 0xc000_0000 0x3f80_0000
-    -- step 6: P = 0 and P infinite; F = ±0 and a subnormal F; g not finite
+    -- step 6: P = 0 and P infinite; F = ±0, subnormal and infinite; g not finite
     ∷ bits (stepSize (f32 0x3f80_0000) (f32 0)) 0x4974_2400 ∷ bits (stepSize (f32 0x3f80_0000) (inf false)) 0
-    ∷ yes (live (f32 0)) false ∷ yes (live (f32 0x8000_0000)) false ∷ yes (live (f32 1)) true
+    ∷ yes (live (f32 0)) false ∷ yes (live (f32 0x8000_0000)) false ∷ yes (live (f32 1)) true ∷ yes (live (inf false)) true
     ∷ held (updateOf (f32 0) (c 0x3f80_0000 0)) ∷ held (updateOf (f32 1) (complex nan (f32 0))) ∷ held (updateOf (f32 1) (complex (f32 0) (inf false)))
-    ∷ stepOr (updateOf (f32 1) (c 0x3f80_0000 0xbf80_0000)) 0x3f80_0000 0xbf80_0000
+    ∷ stepOr (updateOf (f32 1) (c 0x3f80_0000 0xbf80_0000)) 0x3f80_0000 0xbf80_0000 ∷ stepOr (updateOf (inf false) (c 0 0)) 0 0
     -- the power underflows to 0 at 2^-75, and the order of the sum is the slice's
     ∷ bits (power (f32 0x1a00_0000 ∷ f32 0 ∷ []) 1) 0 ∷ bits (power (f32 0x3f80_0000 ∷ f32 0x3f80_0000 ∷ f32 0x4000_0000 ∷ f32 0 ∷ []) 2) 0x40c0_0000
-    -- a weight that is not finite resets them all: 1 at 3 / 2; a tiny one is flushed
+    -- a weight that is not finite resets them all: 1 at 3 / 2; a tiny part is flushed
     ∷ same (bitsOf (adapted (Step (f32 0x7f00_0000) (f32 0)) 3 3 (replicate 6 (f32 0x3f80_0000)) (replicate 6 (f32 0x4080_0000)))) (0 ∷ 0 ∷ 0x3f80_0000 ∷ 0 ∷ 0 ∷ 0 ∷ [])
     ∷ same (bitsOf (adapted (Step (f32 0x7f00_0000) (f32 0)) 5 5 (replicate 10 (f32 0x3f80_0000)) (replicate 10 (f32 0x4080_0000)))) (0 ∷ 0 ∷ 0 ∷ 0 ∷ 0x3f80_0000 ∷ 0 ∷ 0 ∷ 0 ∷ 0 ∷ 0 ∷ [])
     ∷ same (bitsOf (adapted (Step (f32 0x0d80_0000) (f32 0)) 1 1 (f32 0 ∷ f32 0x3f80_0000 ∷ []) (f32 0x3f80_0000 ∷ f32 0 ∷ []))) (0 ∷ 0x3f80_0000 ∷ [])
+    ∷ same (bitsOf (adapted (Step (f32 0) (f32 0x0d80_0000)) 1 1 (f32 0x3f80_0000 ∷ f32 0 ∷ []) (f32 0x3f80_0000 ∷ f32 0 ∷ []))) (0x3f80_0000 ∷ 0 ∷ [])
     ∷ same (bitsOf (adapted Hold 1 1 (f32 0x3f80_0000 ∷ f32 0 ∷ []) (f32 0x3f80_0000 ∷ f32 0 ∷ []))) (0x3f80_0000 ∷ 0 ∷ [])
     -- w - g·conj(h) with g = 1 + 2i, h = 3 + 5i, w = 0: g·conj(h) = 13 + i
     ∷ same (bitsOf (adapted (Step (f32 0x3f80_0000) (f32 0x4000_0000)) 1 1 (f32 0 ∷ f32 0 ∷ []) (f32 0x4040_0000 ∷ f32 0x40a0_0000 ∷ []))) (0xc150_0000 ∷ 0xbf80_0000 ∷ [])
     -- step 7: pd is 0 where it is not finite
     ∷ bits (phaseError (c 0x3f80_0000 0x4000_0000) (c 0x4040_0000 0x3f80_0000)) 0x40a0_0000 ∷ bits (phaseError (complex (inf false) (f32 0)) (c 0x3f80_0000 0x3f80_0000)) 0
+    -- freq is flushed: 2^-99 - 2^-100, and the other sign; it is held to ±0.125
+    ∷ bits (freqAfter (tracker 0x0e00_0000 0x3f80_0000) (f32 0x8d80_0000)) 0 ∷ bits (freqAfter (tracker 0x8e00_0000 0x3f80_0000) (f32 0x0d80_0000)) 0
+    ∷ bits (freqAfter (tracker 0x3e00_0000 0x3967_1b0a) (f32 0x3f80_0000)) 0x3e00_0000 ∷ bits (freqAfter (tracker 0xbe00_0000 0x3967_1b0a) (f32 0xbf80_0000)) 0xbe00_0000
+    ∷ bits (freqAfter (tracker 0x3dff_0000 0x3967_1b0a) (f32 0x3f00_0000)) 0x3dff_39c7 ∷ bits (freqAfter (tracker 0x0da2_4260 0x3967_1b0a) (f32 0)) 0x0da2_4260
     -- turning on and back by a quarter
     ∷ bitsC (rotated (c 0x3f80_0000 0x4000_0000) (cosSin 0x4000_0000)) 0xc000_0000 0x3f80_0000 ∷ bitsC (derotated (c 0x3f80_0000 0x4000_0000) (cosSin 0x4000_0000)) 0x4000_0000 0xbf80_0000
     -- a window of two numbers takes a third; a window of none takes none
@@ -195,5 +210,5 @@ stepRows =
 
 -- the table, whole
 unfoldable pub edgesPass : Bool
-unfolding bits bitsC c all floatRows rangeRows phaseRows decideRows stepOr held stepRows
+unfolding bits bitsC c all floatRows rangeRows phaseRows decideRows stepOr held tracker stepRows
 edgesPass = all floatRows && all rangeRows && all phaseRows && all decideRows && all stepRows

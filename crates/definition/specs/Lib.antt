@@ -22,6 +22,7 @@ pub mod Paths
 pub mod Packed
 pub mod Rows
 pub mod Examples
+pub mod Samples
 pub mod Refused
 pub mod Constants
 pub mod Edges

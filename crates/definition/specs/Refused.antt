@@ -2,7 +2,7 @@
 -- came; two causes at once for each order; and what the operations leave where they serve.
 use Prim.Native.Nat.{ℕ, _+_, _*_}
 use mathlib.Core.Bool.{Bool, true, false, _&&_}
-use mathlib.Core.List.{List, [], _∷_, _++_}
+use mathlib.Core.List.{List, [], _∷_}
 use lib.ListN.{replicate, set}
 use lib.Ieee.{Float, nan, inf}
 use Rattle.types.specs.declared.EqMode.{EqMode}
@@ -79,11 +79,12 @@ start = around good (eight 0x3f00_0000) (eight 0x3e80_0000)
 unfoldable startWith : EqualizeState → Equalizer
 startWith s = around s (eight 0x3f00_0000) (eight 0x3e80_0000)
 
-unfoldable weightsWith : ℕ → Equalizer
-weightsWith bits = around good (set (eight 0x3f00_0000) 3 (f32 bits)) (eight 0x3e80_0000)
+-- one f32 of the weights, or of the window, has these bits: 0 is the first forward part, 7 the last feedback part
+unfoldable weightsWith : ℕ → ℕ → Equalizer
+weightsWith at bits = around good (set (eight 0x3f00_0000) at (f32 bits)) (eight 0x3e80_0000)
 
-unfoldable windowWith : ℕ → Equalizer
-windowWith bits = around good (eight 0x3f00_0000) (set (eight 0x3e80_0000) 7 (f32 bits))
+unfoldable windowWith : ℕ → ℕ → Equalizer
+windowWith at bits = around good (eight 0x3f00_0000) (set (eight 0x3e80_0000) at (f32 bits))
 
 unfoldable longer : List Float → List Float
 longer l = f32 0x3f00_0000 ∷ l
@@ -104,6 +105,14 @@ marks n = replicate n 7
 -- a record that breaks R4: count 1000 of 1000 in Cma
 unfoldable broken : Equalizer
 broken = startWith (recordOf (settings 1 1000) Cma 1000 0x3c07_6966 0x3967_1b0a 0x3c23_d70a)
+
+-- bandwidth 0.25 with its own gains
+unfoldable wide : EqualizeState
+wide = recordOf (settingsWith 1 0x3d4c_cccd 0x3ca3_d70a 0x3fd0_0000_0000_0000) Cma 5 0x3d9c_7473 0x3cd0_9bf2 0
+
+-- a record that breaks every rule: 64 feedback taps, bandwidth 0.25 with the gains of 0.02, freq -0, Decision with 5 of 1000; the step sizes are given
+unfoldable ruined : ℕ → ℕ → EqualizeState
+ruined cmaBits ddBits = recordOf (settingsWith 64 cmaBits ddBits 0x3fd0_0000_0000_0000) Decision 5 0x3c07_6966 0x3967_1b0a 0x8000_0000
 
 -- what reset leaves of `start`: count 0, mse 1, phase 0, freq 0, weight 1 in the middle of the forward taps
 unfoldable restarted : EqualizeState → EqMode → Equalizer
@@ -155,15 +164,16 @@ resetRows =
     resetIs start (restarted good Cma) []
     -- R3 and R4 are not tested
     ∷ resetIs broken (restarted good Cma) []
-    ∷ resetIs (weightsWith 0x7f80_0000) (restarted good Cma) []
+    ∷ resetIs (weightsWith 3 0x7f80_0000) (restarted good Cma) []
     ∷ (let s = recordOf (settings 1 0) Cma 9 0x3c07_6966 0x3967_1b0a 0x3f80_0000 in resetIs (startWith s) (restarted s Decision) [])
     -- an odd slice
     ∷ (let q = around good (longer (eight 0)) (eight 0) in resetIs q q (1 ∷ []))
     ∷ (let q = around good (eight 0) (longer (eight 0)) in resetIs q q (1 ∷ []))
-    -- R1: lengths, taps; R2: a step size, a gain
+    -- R1: lengths, taps; R2: a step size, the bandwidth, a gain
     ∷ (let q = around good (eight 0) (longer (longer (eight 0))) in resetIs q q (8 ∷ []))
     ∷ (let q = around good (longer (longer (eight 0))) (longer (longer (eight 0))) in resetIs q q (8 ∷ []))
     ∷ (let q = startWith (recordOf (settingsWith 1 0 0x3ca3_d70a 0x3f94_7ae1_47ae_147b) Cma 5 0x3c07_6966 0x3967_1b0a 0) in resetIs q q (8 ∷ []))
+    ∷ (let q = startWith wide in resetIs q q (8 ∷ []))
     ∷ (let q = startWith (recordOf (settings 1 1000) Cma 5 0x3c07_6967 0x3967_1b0a 0) in resetIs q q (8 ∷ []))
     -- 1 and 8
     ∷ (let q = around (recordOf (settings 1 1000) Cma 5 0 0 0) (longer (eight 0)) (eight 0) in resetIs q q (1 ∷ []))
@@ -180,7 +190,10 @@ setterRows =
     ∷ setterIs (setMuDdDef good zero32) (6 ∷ []) good
     ∷ setterIs (setMuDdDef good (inf false)) (6 ∷ []) good
     -- nothing else is tested
-    ∷ setterIs (setMuCmaDef (broken .state) one32) [] (recordOf (settingsWith 1 0x3f80_0000 0x3ca3_d70a 0x3f94_7ae1_47ae_147b) Cma 1000 0x3c07_6966 0x3967_1b0a 0x3c23_d70a)
+    ∷ setterIs (setMuCmaDef (ruined 0 0) one32) [] (ruined 0x3f80_0000 0)
+    ∷ setterIs (setMuDdDef (ruined 0 0) one32) [] (ruined 0 0x3f80_0000)
+    ∷ setterIs (setMuCmaDef (ruined 0 0) zero32) (5 ∷ []) (ruined 0 0)
+    ∷ setterIs (setMuDdDef (ruined 0 0) zero32) (6 ∷ []) (ruined 0 0)
     -- set_frequency: NaN, the infinities, -0, 1e-31, 1e-30 and the f32 below, 0.04, -0.3, the limits
     ∷ frequencyIs good nan 0
     ∷ frequencyIs good (inf false) 0x3e00_0000
@@ -195,34 +208,7 @@ setterRows =
     ∷ frequencyIs good (f32 0xbe99_999a) 0xbe00_0000
     ∷ frequencyIs good (f32 0x3e00_0000) 0x3e00_0000
     ∷ frequencyIs good (f32 0x3e00_0001) 0x3e00_0000
-    ∷ frequencyIs (broken .state) nan 0
-    ∷ []
-
--- ---- one sample whole: a blank whose sum is not finite either; a finite sample whose sum is not; a forward window of zeros behind which the
--- feedback window holds something; and the first sample of a call that the Rust was run on
-
-unfoldable huge : Equalizer
-huge = around good (eight 0x7f00_0000) (eight 0x7f00_0000)
-
-unfoldable silent : Equalizer
-silent = around (recordOf (settings 1 5) Decision 5 0x3c07_6966 0x3967_1b0a 0) (eight 0x3f00_0000) (replicate 6 zero32 ++ replicate 2 (f32 0x3e80_0000))
-
-unfoldable smeared : Equalizer
-smeared =
-    around (withRunning (recordOf (settings 0 1000) Cma 5 0x3c07_6966 0x3967_1b0a 0) Cma 5 (f32 0x3f00_0000) 0 zero32)
-    (f32 0xbe42_233f ∷ f32 0xbe19_b3e6 ∷ f32 0x3e10_2540 ∷ f32 0x3e8a_fb71 ∷ f32 0x3eb2_7070 ∷ f32 0x3d80_6ca2 ∷ [])
-    (f32 0x3ec0_bae8 ∷ f32 0xbebd_93f3 ∷ f32 0x3e85_1487 ∷ f32 0x3da1_b003 ∷ f32 0xbf2b_f3e4 ∷ f32 0x3d66_67b5 ∷ [])
-
--- one sample: what is written to the output and the marks
-unfoldable writes : Equalizer → Float → Float → List ℕ → ℕ → Bool
-writes q re im symbol mark = let a = equalizeDef q (re ∷ im ∷ []) two (marks 1) in same (bitsOf (a .out)) symbol && same (a .marks) (mark ∷ [])
-
-unfoldable sampleRows : List Bool
-sampleRows =
-    writes huge nan zero32 (0 ∷ 0 ∷ []) 1
-    ∷ writes huge (f32 0x7f00_0000) zero32 (0 ∷ 0 ∷ []) 2
-    ∷ writes smeared (f32 0xbef4_bb25) (f32 0xbd6e_eea6) (0x3ea4_59fa ∷ 0x3e34_eb34 ∷ []) 0
-    ∷ (let a = equalizeDef silent (zero32 ∷ zero32 ∷ []) two (marks 1) in same (bitsOf (a .equalizer .weights)) (replicate 8 0x3f00_0000) && same (bitsOf (a .equalizer .window)) (replicate 8 0))
+    ∷ frequencyIs (ruined 0 0) (f32 0x3d23_d70a) 0x3d23_d70a
     ∷ []
 
 -- ---- equalizing tests 1, 8, 9, 10
@@ -240,10 +226,10 @@ callRows =
     ∷ callRefused (startWith (recordOf (settings 64 1000) Cma 5 0x3c07_6966 0x3967_1b0a 0)) four four (marks 2) (8 ∷ [])
     ∷ callRefused (startWith (recordOf (settings 0 1000) Cma 5 0x3c07_6966 0x3967_1b0a 0)) four four (marks 2) (8 ∷ [])
     ∷ callRefused (around good (eight 0) (longer (longer (eight 0)))) four four (marks 2) (8 ∷ [])
-    -- R2: step sizes, bandwidth, gains by bits
+    -- R2: step sizes, bandwidth 0.25, gains by bits
     ∷ callRefused (startWith (recordOf (settingsWith 1 0 0x3ca3_d70a 0x3f94_7ae1_47ae_147b) Cma 5 0x3c07_6966 0x3967_1b0a 0)) four four (marks 2) (8 ∷ [])
     ∷ callRefused (startWith (recordOf (settingsWith 1 0x3d4c_cccd 0x3f80_0001 0x3f94_7ae1_47ae_147b) Cma 5 0x3c07_6966 0x3967_1b0a 0)) four four (marks 2) (8 ∷ [])
-    ∷ callRefused (startWith (recordOf (settingsWith 1 0x3d4c_cccd 0x3ca3_d70a 0x3fd0_0000_0000_0000) Cma 5 0x3c07_6966 0x3967_1b0a 0)) four four (marks 2) (8 ∷ [])
+    ∷ callRefused (startWith wide) four four (marks 2) (8 ∷ [])
     ∷ callRefused (startWith (recordOf (settings 1 1000) Cma 5 0x3c07_6965 0x3967_1b0a 0)) four four (marks 2) (8 ∷ [])
     ∷ callRefused (startWith (recordOf (settings 1 1000) Cma 5 0x3c07_6966 0x3967_1b0b 0)) four four (marks 2) (8 ∷ [])
     -- bandwidth +0 and -0: kp has the sign of the bandwidth
@@ -251,16 +237,22 @@ callRows =
     ∷ callReplies (startWith (recordOf (settingsWith 1 0x3d4c_cccd 0x3ca3_d70a 0) Cma 5 0x8000_0000 0 0)) four four (marks 2) (8 ∷ [])
     ∷ callReplies (startWith (recordOf (settingsWith 1 0x3d4c_cccd 0x3ca3_d70a 0x8000_0000_0000_0000) Cma 5 0x8000_0000 0 0)) four four (marks 2) []
     ∷ callReplies (startWith (recordOf (settingsWith 1 0x3d4c_cccd 0x3ca3_d70a 0x8000_0000_0000_0000) Cma 5 0 0 0)) four four (marks 2) (8 ∷ [])
-    -- R3: a weight -0, below 1e-30, 1e-30, infinite, NaN; a window part infinite, NaN, subnormal; freq -0, below 1e-30, beyond 0.125; mse is free
-    ∷ callRefused (weightsWith 0x8000_0000) four four (marks 2) (8 ∷ [])
-    ∷ callRefused (weightsWith 0x0da2_425f) four four (marks 2) (8 ∷ [])
-    ∷ callReplies (weightsWith 0x8da2_4260) four four (marks 2) []
-    ∷ callReplies (weightsWith 0) four four (marks 2) []
-    ∷ callRefused (weightsWith 0x7f80_0000) four four (marks 2) (8 ∷ [])
-    ∷ callRefused (weightsWith 0x7fc0_0000) four four (marks 2) (8 ∷ [])
-    ∷ callRefused (windowWith 0xff80_0000) four four (marks 2) (8 ∷ [])
-    ∷ callRefused (windowWith 0x7fc0_0000) four four (marks 2) (8 ∷ [])
-    ∷ callReplies (windowWith 0x8000_0001) four four (marks 2) []
+    -- R3: a weight -0, below 1e-30, 1e-30, infinite, NaN; a window part infinite, NaN, subnormal
+    ∷ callRefused (weightsWith 3 0x8000_0000) four four (marks 2) (8 ∷ [])
+    ∷ callRefused (weightsWith 3 0x0da2_425f) four four (marks 2) (8 ∷ [])
+    ∷ callReplies (weightsWith 3 0x8da2_4260) four four (marks 2) []
+    ∷ callReplies (weightsWith 3 0) four four (marks 2) []
+    ∷ callRefused (weightsWith 3 0x7f80_0000) four four (marks 2) (8 ∷ [])
+    ∷ callRefused (weightsWith 3 0x7fc0_0000) four four (marks 2) (8 ∷ [])
+    ∷ callRefused (windowWith 7 0xff80_0000) four four (marks 2) (8 ∷ [])
+    ∷ callRefused (windowWith 7 0x7fc0_0000) four four (marks 2) (8 ∷ [])
+    ∷ callReplies (windowWith 7 0x8000_0001) four four (marks 2) []
+    -- the first and the last weight, the first and the last forward part of the window
+    ∷ callRefused (weightsWith 0 0x8000_0000) four four (marks 2) (8 ∷ [])
+    ∷ callRefused (weightsWith 7 0x8000_0000) four four (marks 2) (8 ∷ [])
+    ∷ callRefused (windowWith 0 0x7f80_0000) four four (marks 2) (8 ∷ [])
+    ∷ callRefused (windowWith 5 0x7f80_0000) four four (marks 2) (8 ∷ [])
+    -- freq -0, below 1e-30, beyond 0.125; mse is free
     ∷ callRefused (startWith (recordOf (settings 1 1000) Cma 5 0x3c07_6966 0x3967_1b0a 0x8000_0000)) four four (marks 2) (8 ∷ [])
     ∷ callRefused (startWith (recordOf (settings 1 1000) Cma 5 0x3c07_6966 0x3967_1b0a 0x0da2_425f)) four four (marks 2) (8 ∷ [])
     ∷ callRefused (startWith (recordOf (settings 1 1000) Cma 5 0x3c07_6966 0x3967_1b0a 0x3e00_0001)) four four (marks 2) (8 ∷ [])
@@ -292,5 +284,5 @@ callRows =
 
 -- the table, whole
 unfoldable pub refusalsPass : Bool
-unfolding newRefused madeBits newServed resetIs callRefused callReplies setterIs frequencyIs recordOf good around eight start startWith weightsWith windowWith longer four six two marks broken restarted all newRows resetRows setterRows huge silent smeared writes sampleRows callRows
-refusalsPass = all newRows && all resetRows && all setterRows && all sampleRows && all callRows
+unfolding newRefused madeBits newServed resetIs callRefused callReplies setterIs frequencyIs recordOf good around eight start startWith weightsWith windowWith longer four six two marks broken wide ruined restarted all newRows resetRows setterRows callRows
+refusalsPass = all newRows && all resetRows && all setterRows && all callRows

@@ -1,2 +1,3 @@
--- Laws that belong to no one function: the numbers of the cases.
+-- Cases: the exits of the functions from a number back. Numbered: a case and its number.
 pub mod Cases
+pub mod Numbered
