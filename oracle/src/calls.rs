@@ -78,6 +78,14 @@ pub fn write_places(out: &mut impl Write, seed: u64, rounds: u64) -> io::Result<
     Ok(seen.disagreements == 0)
 }
 
+/// Writes one case.
+pub fn write_one(out: &mut impl Write, case: &Case) -> io::Result<bool> {
+    let mut seen = Seen::default();
+    let (answer, marks) = answer(case, &mut seen);
+    line(case, &answer, &marks).write(out)?;
+    Ok(seen.disagreements == 0)
+}
+
 fn line(case: &Case, answer: &Answer, marks: &[u8]) -> Line {
     let mut line = Line::default();
     line.record(&case.record);

@@ -9,6 +9,7 @@ include!(concat!(env!("OUT_DIR"), "/sdrk/mods.rs"));
 mod bench;
 mod calls;
 mod cases;
+mod given;
 mod inputs;
 mod leaves;
 mod line;
@@ -24,6 +25,7 @@ const USAGE: &str = "usage: oracle leaves OUT_FOLDER
        oracle calls SEED COUNT [--long] [FILE]
        oracle places SEED ROUNDS [FILE]
        oracle others SEED COUNT [FILE]
+       oracle answer [FILE]        (cases from the standard input)
        oracle demo RECORDING [FILE]
        oracle bench [SECONDS]      (with the feature bench)";
 
@@ -55,6 +57,9 @@ fn run(words: &[&str]) -> io::Result<bool> {
         }
         ["others", seed, count, ref file @ ..] if file.len() < 2 => {
             others::write(&mut out(file)?, whole(seed)?, whole(count)?).map(|()| true)
+        }
+        ["answer", ref file @ ..] if file.len() < 2 => {
+            given::write(&mut io::stdin().lock(), &mut out(file)?)
         }
         ["demo", recording, ref file @ ..] if file.len() < 2 => {
             recording::write(&mut File::open(recording)?, &mut out(file)?).map(|()| true)
