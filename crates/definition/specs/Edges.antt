@@ -1,11 +1,12 @@
 -- The leaves at their edges, as one table: limits and their neighbours, NaN, infinities, -0, ties, octant borders, gains at -0, flush at 1e-30.
 -- A row gives the arguments by their bits and then the result; 7fc00000 is a NaN.
 use Prim.Native.Nat.{ℕ}
-use mathlib.Core.Bool.{Bool, true, false, _&&_}
-use mathlib.Core.List.{List, [], _∷_}
+use mathlib.Core.Bool.{Bool, true, false, _&&_, _||_}
+use mathlib.Core.List.{List, [], _∷_, map}
 use lib.ListN.{replicate, getD}
+use lib.IntN.{ℤ, pos, negsuc}
 use lib.Dec.{eqb}
-use lib.Ieee.{Float, nan, inf, binary32, toBits}
+use lib.Ieee.{Float, nan, inf, binary32, toBits, isNan, eq}
 use lib.Ieee.Scale.{finite}
 use Rattle.types.specs.declared.C32.{C32}
 use Rattle.types.specs.declared.EqMode.the-variants.{Cma, Decision}
@@ -15,10 +16,10 @@ use Rattle.types.specs.declared.EqualizeState.{EqualizeState}
 use Rattle.types.specs.declared.Update.{Update}
 use Rattle.types.specs.declared.Update.the-variants.{Step, Hold}
 use Rattle.types.specs.Bits.{f32, f64}
-use Rattle.definition.specs.Floats.{flush, clip, narrow, complex}
-use Rattle.definition.specs.Slices.{sum8, shifted, dotComplex, power}
+use Rattle.definition.specs.Floats.{flush, clip, narrow, complex, timesC}
+use Rattle.definition.specs.Slices.{sum8, filterSum, shifted, dotComplex, power}
 use Rattle.definition.specs.Gains.{phaseDamping, gainKp, gainKi}
-use Rattle.definition.specs.Phase.{cosSin, interpPair, phaseStep}
+use Rattle.definition.specs.Phase.{cosSin, interpPair, stepInt, phaseStep}
 use Rattle.definition.specs.Points.{octant, levelOf, decide}
 use Rattle.definition.specs.Turns.{derotated, rotated}
 use Rattle.definition.specs.Sample.{sanitized, mseAfter, errorOf, fedOf, stepSize, live, updateOf, adapted, phaseError, freqAfter}
@@ -30,9 +31,9 @@ yes true b = b
 yes false true = false
 yes false false = true
 
--- an f32 has these bits
+-- it is the f32 of these bits: toBits rounds, so a number that is no f32 has to be told from the one beside it
 unfoldable bits : Float → ℕ → Bool
-bits v n = eqb (toBits binary32 v) n
+bits v n = eqb (toBits binary32 v) n && (isNan v || eq v (f32 n))
 
 unfoldable bitsC : C32 → ℕ → ℕ → Bool
 bitsC v re im = bits (v .re) re && bits (v .im) im
@@ -63,6 +64,9 @@ floatRows =
     ∷ bits (narrow (f64 0x47ef_ffff_efff_ffff)) 0x7f7f_ffff ∷ bits (narrow (f64 0x47ef_ffff_f000_0000)) 0x7f80_0000 ∷ bits (narrow (f64 0xffef_ffff_ffff_ffff)) 0xff80_0000
     ∷ bits (narrow (f64 0x36a0_0000_0000_0000)) 1 ∷ bits (narrow (f64 0x3690_0000_0000_0000)) 0 ∷ bits (narrow (f64 0x3690_0000_0000_0001)) 1
     ∷ bits (narrow (f64 0x8000_0000_0000_0000)) 0x8000_0000 ∷ bits (narrow nan) 0x7fc0_0000 ∷ bits (narrow (inf false)) 0x7f80_0000
+    -- (1 + 2i)·(3 + 5i) = -7 + 11i; and one whose products are rounded, as the Rust's sum of one tap has it
+    ∷ bitsC (timesC (c 0x3f80_0000 0x4000_0000) (c 0x4040_0000 0x40a0_0000)) 0xc0e0_0000 0x4130_0000
+    ∷ bitsC (timesC (c 0x3f8c_d232 0x3f4a_b2d8) (c 0x3f94_535c 0xbf9b_15e9)) 0x400e_fd30 0xbed4_b4f6
     ∷ []
 
 -- ---- the ranges of R1 to R4
@@ -93,13 +97,20 @@ rangeRows =
     ∷ yes (weightFits (f32 0x8da2_4260)) true ∷ yes (weightFits (f32 0x7f7f_ffff)) true ∷ yes (weightFits (inf true)) false ∷ yes (weightFits nan) false
     -- freq: the same below, and 0.125 above
     ∷ yes (freqFits (f32 0)) true ∷ yes (freqFits (f32 0x8000_0000)) false ∷ yes (freqFits (f32 0x8da2_4260)) true ∷ yes (freqFits (f32 0x8da2_425f)) false
-    ∷ yes (freqFits (f32 0x3e00_0000)) true ∷ yes (freqFits (f32 0xbe00_0000)) true ∷ yes (freqFits (f32 0x3e00_0001)) false ∷ yes (freqFits nan) false ∷ yes (freqFits (inf false)) false
+    ∷ yes (freqFits (f32 0x3e00_0000)) true ∷ yes (freqFits (f32 0xbe00_0000)) true ∷ yes (freqFits (f32 0x3e00_0001)) false ∷ yes (freqFits (f32 0xbe00_0001)) false ∷ yes (freqFits nan) false ∷ yes (freqFits (inf false)) false
     ∷ yes (countFits Cma 0 1) true ∷ yes (countFits Cma 1 1) false ∷ yes (countFits Decision 1 1) true ∷ yes (countFits Decision 0 1) false ∷ yes (countFits Decision 2 1) false
     ∷ yes (countFits Cma 0 0) false ∷ yes (countFits Decision 0 0) true
     ∷ yes (countFits Cma 0 4294967295) true ∷ yes (countFits Cma 1 4294967295) false ∷ yes (countFits Decision 4294967295 4294967295) false
     ∷ []
 
 -- ---- the phase: steps, cosine and sine
+
+-- negsuc n is -(n + 1)
+unfoldable isInt : ℤ → ℤ → Bool
+isInt (pos a) (pos b) = eqb a b
+isInt (pos a) (negsuc b) = false
+isInt (negsuc a) (pos b) = false
+isInt (negsuc a) (negsuc b) = eqb a b
 
 unfoldable phaseRows : List Bool
 phaseRows =
@@ -110,6 +121,12 @@ phaseRows =
     -- 1 turn, 1 - 2^-24 turns, 2^31 - 128 and 2^31 turns, the largest f32
     ∷ eqb (phaseStep (f32 0x3f80_0000)) 0 ∷ eqb (phaseStep (f32 0x3f7f_ffff)) 4294967040 ∷ eqb (phaseStep (f32 0x4eff_ffff)) 0 ∷ eqb (phaseStep (f32 0x4f00_0000)) 4294967295
     ∷ eqb (phaseStep (f32 0x7f7f_ffff)) 4294967295 ∷ eqb (phaseStep (f32 0xff7f_ffff)) 0 ∷ eqb (phaseStep (f32 1)) 0
+    -- 1.5, -1.5 and -1.25 turns: the low 32 bits
+    ∷ eqb (phaseStep (f32 0x3fc0_0000)) 2147483648 ∷ eqb (phaseStep (f32 0xbfc0_0000)) 2147483648 ∷ eqb (phaseStep (f32 0xbfa0_0000)) 3221225472
+    -- held to 2^63 - 1 and -2^63: the infinities, ±2^31 turns and the f32 beyond; the f32 before -2^31 is not held
+    ∷ isInt (stepInt (inf false)) (pos 9223372036854775807) ∷ isInt (stepInt (f32 0x4f00_0000)) (pos 9223372036854775807)
+    ∷ isInt (stepInt (inf true)) (negsuc 9223372036854775807) ∷ isInt (stepInt (f32 0xcf00_0000)) (negsuc 9223372036854775807)
+    ∷ isInt (stepInt (f32 0xcf00_0001)) (negsuc 9223372036854775807) ∷ isInt (stepInt (f32 0xceff_ffff)) (negsuc 9223371487098961919)
     -- quarters of a turn: (1, 0), (0, 1), (-1, 0), (0, -1); the table gives (1, +0) at phase 0 too
     ∷ bits (cosSin 0 .c) 0x3f80_0000 ∷ bits (cosSin 0 .s) 0 ∷ bits (interpPair 0 .c) 0x3f80_0000 ∷ bits (interpPair 0 .s) 0
     ∷ bits (cosSin 0x4000_0000 .c) 0 ∷ bits (cosSin 0x4000_0000 .s) 0x3f80_0000
@@ -118,6 +135,8 @@ phaseRows =
     -- 1/8 turn, and the two phases beside 0
     ∷ bits (cosSin 0x2000_0000 .c) 0x3f35_04f3 ∷ bits (cosSin 0x2000_0000 .s) 0x3f35_04f3
     ∷ bits (cosSin 1 .c) 0x3f80_0000 ∷ bits (cosSin 1 .s) 0x30c9_0fd5 ∷ bits (cosSin 0xffff_ffff .c) 0x3f80_0000
+    -- the last phase of the first line of the table
+    ∷ bits (cosSin 0x000f_ffff .c) 0x3f7f_ffec ∷ bits (cosSin 0x000f_ffff .s) 0x3ac9_0fc8
     ∷ []
 
 -- ---- decisions
@@ -141,7 +160,11 @@ decideRows =
     -- zeros, NaN, infinities
     ∷ eqb (octant (c 0x8000_0000 0x8000_0000)) 0 ∷ eqb (octant (complex nan (f32 0xbf80_0000))) 0 ∷ eqb (octant (complex (f32 0xbf80_0000) nan)) 0
     ∷ eqb (octant (complex (inf true) (inf false))) 3 ∷ eqb (octant (complex (inf false) (f32 0xbf80_0000))) 7
-    ∷ bitsC (decide Psk8 (c 0xbf80_0000 0x3f00_0000)) 0xbf6c_835e 0x3ec3_ef15
+    -- the eight points, from inside the unit circle
+    ∷ bitsC (decide Psk8 (c 0x3f00_0000 0x3e80_0000)) 0x3f6c_835e 0x3ec3_ef15 ∷ bitsC (decide Psk8 (c 0x3e80_0000 0x3f00_0000)) 0x3ec3_ef15 0x3f6c_835e
+    ∷ bitsC (decide Psk8 (c 0xbe80_0000 0x3f00_0000)) 0xbec3_ef15 0x3f6c_835e ∷ bitsC (decide Psk8 (c 0xbf00_0000 0x3e80_0000)) 0xbf6c_835e 0x3ec3_ef15
+    ∷ bitsC (decide Psk8 (c 0xbf00_0000 0xbe80_0000)) 0xbf6c_835e 0xbec3_ef15 ∷ bitsC (decide Psk8 (c 0xbe80_0000 0xbf00_0000)) 0xbec3_ef15 0xbf6c_835e
+    ∷ bitsC (decide Psk8 (c 0x3e80_0000 0xbf00_0000)) 0x3ec3_ef15 0xbf6c_835e ∷ bitsC (decide Psk8 (c 0x3f00_0000 0xbe80_0000)) 0x3f6c_835e 0xbec3_ef15
     -- QAM: NaN is level 0, the infinities are the outer levels; the borders at 0 and at ±2/sqrt(10); far out the outer levels
     ∷ eqb (levelOf qam.Qam16 nan) 0 ∷ eqb (levelOf qam.Qam16 (inf false)) 3 ∷ eqb (levelOf qam.Qam16 (inf true)) 0 ∷ eqb (levelOf qam.Qam64 nan) 0 ∷ eqb (levelOf qam.Qam64 (inf false)) 7
     ∷ eqb (levelOf qam.Qam64 (inf true)) 0 ∷ eqb (levelOf qam.Qam16 (f32 0x8000_0000)) 2 ∷ eqb (levelOf qam.Qam64 (f32 0)) 4
@@ -164,15 +187,30 @@ held (Step a b) = false
 unfoldable tracker : ℕ → ℕ → EqualizeState
 tracker freqBits kiBits = stateOf (settings 0 1000) 0 kiBits Cma 0 0x3f80_0000 0 freqBits
 
+-- 18 taps, so that partials 0 and 1 have three products and the others two; the Rust's sum. It is another by any order of the tree that is not the same, by one
+-- rounding for a·c − b·d, or by two additions
+unfoldable window18 : List ℕ
+window18 =
+    0xbfc3_8e8c ∷ 0x3ccd_5600 ∷ 0xbfee_8687 ∷ 0x3fa1_fe14 ∷ 0xbfe1_2ed6 ∷ 0x3f1f_fc98 ∷ 0x3ee1_1bd0 ∷ 0x3fd6_2f0c ∷ 0x3e73_9db0 ∷ 0x3f61_7dc8 ∷ 0x3eed_b6d0 ∷ 0x3ca6_5800
+    ∷ 0x3f80_e468 ∷ 0xbfd6_90fd ∷ 0xbe70_0df8 ∷ 0xbeec_1f04 ∷ 0x3ff2_be64 ∷ 0xbda2_7c70 ∷ 0xbfd7_e7e4 ∷ 0x3ff1_6e26 ∷ 0xbd7d_7640 ∷ 0x3fca_8064 ∷ 0xbec6_ca04 ∷ 0xbe0d_cf10
+    ∷ 0x3ec9_b660 ∷ 0x3fc7_a41c ∷ 0x3feb_884e ∷ 0xbf48_e6e8 ∷ 0xbf24_f594 ∷ 0xbfb1_6df4 ∷ 0x3fe4_6b64 ∷ 0xbff0_3a0b ∷ 0xbf94_a8db ∷ 0x3f28_a708 ∷ 0x3fc0_386c ∷ 0xbfdc_9859 ∷ []
+
+unfoldable weights18 : List ℕ
+weights18 =
+    0x3f76_b24c ∷ 0x3fef_a428 ∷ 0x3e80_5fd8 ∷ 0xbfd2_94cc ∷ 0xbee0_cfdc ∷ 0x3f09_3778 ∷ 0x3fab_6e92 ∷ 0x3f8a_8d24 ∷ 0x3fa0_a8e0 ∷ 0x3fc1_a190 ∷ 0xbf7e_5f8e ∷ 0x3f7b_5420
+    ∷ 0x3e67_ebe0 ∷ 0xbd1f_c080 ∷ 0x3fb2_99ec ∷ 0xbfcf_42bd ∷ 0xbec7_f290 ∷ 0xbe9f_5190 ∷ 0xbefa_4320 ∷ 0x3ed5_2c58 ∷ 0xbfe1_a724 ∷ 0xbfec_9bb6 ∷ 0xbf47_000a ∷ 0xbf0a_0dea
+    ∷ 0xbf7c_eab8 ∷ 0x3fe6_e254 ∷ 0x3ee6_4470 ∷ 0x3fb2_f344 ∷ 0xbf2c_2ee4 ∷ 0xbff1_1d92 ∷ 0xbeaa_8f7c ∷ 0x3fdb_a3e0 ∷ 0xbfde_2392 ∷ 0x3ff0_e718 ∷ 0x3f71_a2ac ∷ 0xbf1f_5558 ∷ []
+
 unfoldable stepRows : List Bool
 stepRows =
     -- step 1: both parts become 0 where one is not finite
     bitsC (sanitized (complex nan (f32 0x3f80_0000))) 0 0 ∷ bitsC (sanitized (complex (f32 0x3f80_0000) (inf true))) 0 0 ∷ bitsC (sanitized (c 0x8000_0000 1)) 0x8000_0000 1
-    -- step 2: three taps, (1 + 2i)·(3 - i) + 0 + (-0)·.. ; the shorter slice counts
+    -- step 2: (1 + 2i)·(3 - i) = 5 + 5i; the shorter slice counts
     ∷ bitsC (dotComplex (f32 0x3f80_0000 ∷ f32 0x4000_0000 ∷ []) (f32 0x4040_0000 ∷ f32 0xbf80_0000 ∷ f32 0x3f80_0000 ∷ f32 0x3f80_0000 ∷ [])) 0x40a0_0000 0x40a0_0000
     ∷ bitsC (dotComplex [] (f32 0x3f80_0000 ∷ [])) 0 0
     -- 2^24 and -2^24 are partials 0 and 4, which meet first, so that the 1 beside them is not lost
     ∷ bits (sum8 (λ i. getD (f32 0x4b80_0000 ∷ f32 0x3f80_0000 ∷ f32 0 ∷ f32 0 ∷ f32 0xcb80_0000 ∷ []) i (f32 0)) 8) 0x3f80_0000
+    ∷ bitsC (filterSum 18 (map f32 window18) (map f32 weights18)) 0xbe94_9620 0x3d65_e700
     -- step 4: mse moves by 0.01, is flushed, and stays where pe is not finite
     ∷ bits (mseAfter (f32 0x3f80_0000) (f32 0)) 0x3f7d_70a4 ∷ bits (mseAfter (f32 0x0da2_4260) (f32 0)) 0 ∷ bits (mseAfter (f32 0x3f80_0000) (inf false)) 0x3f80_0000
     ∷ bits (mseAfter (f32 0x3f80_0000) nan) 0x3f80_0000 ∷ bits (mseAfter nan (f32 0)) 0x7fc0_0000
@@ -196,6 +234,9 @@ stepRows =
     ∷ same (bitsOf (adapted Hold 1 1 (f32 0x3f80_0000 ∷ f32 0 ∷ []) (f32 0x3f80_0000 ∷ f32 0 ∷ []))) (0x3f80_0000 ∷ 0 ∷ [])
     -- w - g·conj(h) with g = 1 + 2i, h = 3 + 5i, w = 0: g·conj(h) = 13 + i
     ∷ same (bitsOf (adapted (Step (f32 0x3f80_0000) (f32 0x4000_0000)) 1 1 (f32 0 ∷ f32 0 ∷ []) (f32 0x4040_0000 ∷ f32 0x40a0_0000 ∷ []))) (0xc150_0000 ∷ 0xbf80_0000 ∷ [])
+    -- n is 1, and there are two weights: the second stays
+    ∷ same (bitsOf (adapted (Step (f32 0x3f80_0000) (f32 0x4000_0000)) 1 1 (map f32 (0 ∷ 0 ∷ 0x3f80_0000 ∷ 0x4000_0000 ∷ [])) (map f32 (0x4040_0000 ∷ 0x40a0_0000 ∷ 0x3f80_0000 ∷ 0 ∷ []))))
+    (0xc150_0000 ∷ 0xbf80_0000 ∷ 0x3f80_0000 ∷ 0x4000_0000 ∷ [])
     -- step 7: pd is 0 where it is not finite
     ∷ bits (phaseError (c 0x3f80_0000 0x4000_0000) (c 0x4040_0000 0x3f80_0000)) 0x40a0_0000 ∷ bits (phaseError (complex (inf false) (f32 0)) (c 0x3f80_0000 0x3f80_0000)) 0
     -- freq is flushed: 2^-99 - 2^-100, and the other sign; it is held to ±0.125
@@ -210,5 +251,5 @@ stepRows =
 
 -- the table, whole
 unfoldable pub edgesPass : Bool
-unfolding bits bitsC c all floatRows rangeRows phaseRows decideRows stepOr held tracker stepRows
+unfolding bits bitsC c all floatRows rangeRows isInt phaseRows decideRows stepOr held tracker window18 weights18 stepRows
 edgesPass = all floatRows && all rangeRows && all phaseRows && all decideRows && all stepRows

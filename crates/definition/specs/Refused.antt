@@ -1,9 +1,10 @@
 -- The refusals, as one table: every number from every operation that tests it, what it returns, and that all slices and the record are as they
 -- came; two causes at once for each order; and what the operations leave where they serve.
 use Prim.Native.Nat.{ℕ, _+_, _*_}
-use mathlib.Core.Bool.{Bool, true, false, _&&_}
+use mathlib.Core.Bool.{Bool, true, false, not, _&&_}
 use mathlib.Core.List.{List, [], _∷_}
 use lib.ListN.{replicate, set}
+use lib.Dec.{eqb}
 use lib.Ieee.{Float, nan, inf}
 use Rattle.types.specs.declared.EqMode.{EqMode}
 use Rattle.types.specs.declared.EqMode.the-variants.{Cma, Decision}
@@ -12,7 +13,8 @@ use Rattle.types.specs.declared.EqualizeState.{EqualizeState}
 use Rattle.types.specs.declared.Fresh.{Fresh}
 use Rattle.types.specs.declared.Fresh.the-variants.{Made, NotMade}
 use Rattle.types.specs.Bits.{f32, zero32, one32}
-use Rattle.definition.specs.Sample.{Equalizer, withRunning}
+use Rattle.definition.specs.Sample.{Equalizer, allTaps, forward, withRunning}
+use Rattle.definition.specs.Rules.{ruleR1, acceptedDef}
 use Rattle.definition.specs.Calls.{newDef, resetDef, SetAnswer, setMuCmaDef, setMuDdDef, setFrequencyDef, equalizeDef}
 use Rattle.definition.specs.Rows.{same, bitsOf, stateBits, sameEqualizer, settings, settingsWith, stateOf}
 
@@ -106,6 +108,10 @@ marks n = replicate n 7
 unfoldable broken : Equalizer
 broken = startWith (recordOf (settings 1 1000) Cma 1000 0x3c07_6966 0x3967_1b0a 0x3c23_d70a)
 
+-- a window of one number more than the weights
+unfoldable uneven : Equalizer
+uneven = around good (eight 0) (longer (longer (eight 0)))
+
 -- bandwidth 0.25 with its own gains
 unfoldable wide : EqualizeState
 wide = recordOf (settingsWith 1 0x3d4c_cccd 0x3ca3_d70a 0x3fd0_0000_0000_0000) Cma 5 0x3d9c_7473 0x3cd0_9bf2 0
@@ -170,7 +176,7 @@ resetRows =
     ∷ (let q = around good (longer (eight 0)) (eight 0) in resetIs q q (1 ∷ []))
     ∷ (let q = around good (eight 0) (longer (eight 0)) in resetIs q q (1 ∷ []))
     -- R1: lengths, taps; R2: a step size, the bandwidth, a gain
-    ∷ (let q = around good (eight 0) (longer (longer (eight 0))) in resetIs q q (8 ∷ []))
+    ∷ resetIs uneven uneven (8 ∷ [])
     ∷ (let q = around good (longer (longer (eight 0))) (longer (longer (eight 0))) in resetIs q q (8 ∷ []))
     ∷ (let q = startWith (recordOf (settingsWith 1 0 0x3ca3_d70a 0x3f94_7ae1_47ae_147b) Cma 5 0x3c07_6966 0x3967_1b0a 0) in resetIs q q (8 ∷ []))
     ∷ (let q = startWith wide in resetIs q q (8 ∷ []))
@@ -211,6 +217,24 @@ setterRows =
     ∷ frequencyIs (ruined 0 0) (f32 0x3d23_d70a) 0x3d23_d70a
     ∷ []
 
+-- ---- an accepted record: R1 to R4, and slices of whole complex numbers
+
+-- 3 forward and m feedback taps
+unfoldable feeding : ℕ → Equalizer
+feeding m = around (recordOf (settings m 1000) Cma 5 0x3c07_6966 0x3967_1b0a 0) (replicate (2 * (3 + m)) zero32) (replicate (2 * (3 + m)) zero32)
+
+unfoldable acceptedRows : List Bool
+acceptedRows =
+    acceptedDef start ∷ not (acceptedDef broken)
+    -- one f32 too many, which R1 does not see
+    ∷ not (acceptedDef (around good (longer (eight 0x3f00_0000)) (eight 0x3e80_0000)))
+    ∷ not (acceptedDef (around good (eight 0x3f00_0000) (longer (eight 0x3e80_0000))))
+    -- R1: 63 and 64 feedback taps
+    ∷ ruleR1 (feeding 63) ∷ not (ruleR1 (feeding 64))
+    -- taps are those of the weights
+    ∷ eqb (allTaps uneven) 4 ∷ eqb (forward uneven) 3
+    ∷ []
+
 -- ---- equalizing tests 1, 8, 9, 10
 
 unfoldable callRows : List Bool
@@ -225,7 +249,7 @@ callRows =
     -- 8, R1: feedback taps, forward taps, lengths
     ∷ callRefused (startWith (recordOf (settings 64 1000) Cma 5 0x3c07_6966 0x3967_1b0a 0)) four four (marks 2) (8 ∷ [])
     ∷ callRefused (startWith (recordOf (settings 0 1000) Cma 5 0x3c07_6966 0x3967_1b0a 0)) four four (marks 2) (8 ∷ [])
-    ∷ callRefused (around good (eight 0) (longer (longer (eight 0)))) four four (marks 2) (8 ∷ [])
+    ∷ callRefused uneven four four (marks 2) (8 ∷ [])
     -- R2: step sizes, bandwidth 0.25, gains by bits
     ∷ callRefused (startWith (recordOf (settingsWith 1 0 0x3ca3_d70a 0x3f94_7ae1_47ae_147b) Cma 5 0x3c07_6966 0x3967_1b0a 0)) four four (marks 2) (8 ∷ [])
     ∷ callRefused (startWith (recordOf (settingsWith 1 0x3d4c_cccd 0x3f80_0001 0x3f94_7ae1_47ae_147b) Cma 5 0x3c07_6966 0x3967_1b0a 0)) four four (marks 2) (8 ∷ [])
@@ -284,5 +308,5 @@ callRows =
 
 -- the table, whole
 unfoldable pub refusalsPass : Bool
-unfolding newRefused madeBits newServed resetIs callRefused callReplies setterIs frequencyIs recordOf good around eight start startWith weightsWith windowWith longer four six two marks broken wide ruined restarted all newRows resetRows setterRows callRows
-refusalsPass = all newRows && all resetRows && all setterRows && all callRows
+unfolding newRefused madeBits newServed resetIs callRefused callReplies setterIs frequencyIs recordOf good around eight start startWith weightsWith windowWith longer four six two marks broken wide ruined restarted feeding uneven all newRows resetRows setterRows acceptedRows callRows
+refusalsPass = all newRows && all resetRows && all setterRows && all acceptedRows && all callRows

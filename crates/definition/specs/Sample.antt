@@ -144,17 +144,19 @@ hear s n f h y =
     let t = cosSin (s .phase) in
     let z = derotated y t in
     let d = decide (s .params .constellation) z in
-    let e = errorOf (s .mode) (s .params .constellation) y (minusC z d) t in
+    let ed = minusC z d in
+    let e = errorOf (s .mode) (s .params .constellation) y ed t in
+    let P = power h n in
     record {
       turn = t;
       z = z;
       d = d;
-      ed = minusC z d;
-      pe = norm (minusC z d);
+      ed = ed;
+      pe = norm ed;
       e = e;
-      P = power h n;
+      P = P;
       F = power h f;
-      g = scaledC (stepSize (muOf (s .mode) (s .params)) (power h n)) e;
+      g = scaledC (stepSize (muOf (s .mode) (s .params)) P) e;
       pd = phaseError z d;
     }
 
