@@ -58,6 +58,8 @@ floatRows =
     ∷ bits (clip (f32 0x3f80_0000) (f32 0x3f80_0000)) 0x3f80_0000 ∷ bits (clip (f32 0x3f80_0001) (f32 0x3f80_0000)) 0x3f80_0000
     ∷ bits (clip (f32 0xbf80_0001) (f32 0x3f80_0000)) 0xbf80_0000 ∷ bits (clip (f32 0x3f7f_ffff) (f32 0x3f80_0000)) 0x3f7f_ffff
     ∷ bits (clip (inf true) (f32 0x3e00_0000)) 0xbe00_0000 ∷ bits (clip nan (f32 0x3f80_0000)) 0x7fc0_0000 ∷ bits (clip (f32 0x8000_0000) (f32 0x3f80_0000)) 0x8000_0000
+    -- to 0: what is at the limit stays, so zeros keep their sign
+    ∷ bits (clip (f32 0x8000_0000) (f32 0)) 0x8000_0000 ∷ bits (clip (f32 0) (f32 0)) 0 ∷ bits (clip (f32 1) (f32 0)) 0 ∷ bits (clip (f32 0x8000_0001) (f32 0)) 0x8000_0000
     -- narrow: 1 + 2^-24 is a tie and goes down to the even 1, 1 + 3·2^-24 up to 1 + 2^-22; above a tie up
     ∷ bits (narrow (f64 0x3ff0_0000_1000_0000)) 0x3f80_0000 ∷ bits (narrow (f64 0x3ff0_0000_3000_0000)) 0x3f80_0002 ∷ bits (narrow (f64 0x3ff0_0000_1000_0001)) 0x3f80_0001
     -- the largest f32, the tie above it, the largest f64; the smallest f32, half of it, above half
@@ -205,8 +207,9 @@ unfoldable stepRows : List Bool
 stepRows =
     -- step 1: both parts become 0 where one is not finite
     bitsC (sanitized (complex nan (f32 0x3f80_0000))) 0 0 ∷ bitsC (sanitized (complex (f32 0x3f80_0000) (inf true))) 0 0 ∷ bitsC (sanitized (c 0x8000_0000 1)) 0x8000_0000 1
-    -- step 2: (1 + 2i)·(3 - i) = 5 + 5i; the shorter slice counts
+    -- step 2: (1 + 2i)·(3 - i) = 5 + 5i; the shorter slice counts, whichever it is
     ∷ bitsC (dotComplex (f32 0x3f80_0000 ∷ f32 0x4000_0000 ∷ []) (f32 0x4040_0000 ∷ f32 0xbf80_0000 ∷ f32 0x3f80_0000 ∷ f32 0x3f80_0000 ∷ [])) 0x40a0_0000 0x40a0_0000
+    ∷ bitsC (dotComplex (f32 0x4040_0000 ∷ f32 0xbf80_0000 ∷ f32 0x3f80_0000 ∷ f32 0x3f80_0000 ∷ []) (f32 0x3f80_0000 ∷ f32 0x4000_0000 ∷ [])) 0x40a0_0000 0x40a0_0000
     ∷ bitsC (dotComplex [] (f32 0x3f80_0000 ∷ [])) 0 0
     -- 2^24 and -2^24 are partials 0 and 4, which meet first, so that the 1 beside them is not lost
     ∷ bits (sum8 (λ i. getD (f32 0x4b80_0000 ∷ f32 0x3f80_0000 ∷ f32 0 ∷ f32 0 ∷ f32 0xcb80_0000 ∷ []) i (f32 0)) 8) 0x3f80_0000
