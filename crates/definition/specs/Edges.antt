@@ -189,8 +189,9 @@ held (Step a b) = false
 unfoldable tracker : ℕ → ℕ → EqualizeState
 tracker freqBits kiBits = stateOf (settings 0 1000) 0 kiBits Cma 0 0x3f80_0000 0 freqBits
 
--- 18 taps, so that partials 0 and 1 have three products and the others two; the Rust's sum. It is another by any order of the tree that is not the same, by one
--- rounding for a·c − b·d, or by two additions
+-- 18 taps, so that partials 0 and 1 have three products and the others two; the Rust's sum. Other ways that were tried give another: five other trees
+-- (neighbours first, one partial after the other, ..), the taps from the last on, one sum without partials, one rounding for a·c − b·d, an addition for
+-- each product, and sums of a·c and of b·d apart
 unfoldable window18 : List ℕ
 window18 =
     0xbfc3_8e8c ∷ 0x3ccd_5600 ∷ 0xbfee_8687 ∷ 0x3fa1_fe14 ∷ 0xbfe1_2ed6 ∷ 0x3f1f_fc98 ∷ 0x3ee1_1bd0 ∷ 0x3fd6_2f0c ∷ 0x3e73_9db0 ∷ 0x3f61_7dc8 ∷ 0x3eed_b6d0 ∷ 0x3ca6_5800
