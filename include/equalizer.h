@@ -1,12 +1,25 @@
-/* The adaptive equalizer, for C. Samples are interleaved floats, real part first. Weights and window are the caller's, of equal length: forward
- * taps, then feedback taps, newest first in each. A slice is a pointer and its count of floats (of bytes for marks); every call returns, with a
- * refusal where it is not served, and a refused call leaves the record and all slices as they came. Pointers must be valid for their count,
- * and slices that a call writes must not overlap any other of its slices. A count of 0 still wants a pointer that is not null. */
+/* The adaptive equalizer, for C and C++. Samples are interleaved floats, real part first. Weights and window are the caller's, of equal length:
+ * forward taps, then feedback taps, newest first in each. A slice is a pointer and its count of floats (of bytes for marks).
+ *
+ * Refusals: every call returns, with a refusal where it is not served, and a refused call leaves the record and all slices as they came. The reply
+ *   has the first number that applies, in the order given at each call. A window of another length than the weights is 4 at eq_new, and 8 at
+ *   eq_reset, eq_equalize and eq_reference.
+ * Pointers must be valid for their count; a count of 0 still wants a pointer that is not null. A slice that a call writes (weights, window, output,
+ *   marks) must not overlap any other slice of that call, or its behaviour is undefined: input and output may not be the same buffer.
+ * Threads: there is no global state, and no memory is asked for. Calls on different records and slices may run at once; the calls of one record come
+ *   one after the other, each with the record that the last one replied.
+ * Delay: the symbol of sample i belongs to the sample (forward taps - 1) / 2 earlier, that of the centre tap; its mark belongs to sample i itself.
+ * Level: the points of each constellation have mean power 1. Bring the input near that level. */
 #ifndef EQUALIZER_H
 #define EQUALIZER_H
 
 #include <stddef.h>
 #include <stdint.h>
+
+#define EQ_VERSION_MAJOR 0
+#define EQ_VERSION_MINOR 1
+#define EQ_VERSION_PATCH 0
+#define EQ_VERSION "0.1.0"
 
 #ifdef __cplusplus
 extern "C" {
@@ -19,7 +32,7 @@ enum eq_mark {
     EQ_SPILLED = 2  /* the sample is finite, its filter sum is not: its symbol is (0, 0) */
 };
 
-/* The number of a reply. Lengths are in complex samples, of marks in bytes. */
+/* The number of a reply; eq_strerror has the same words. Lengths are in complex samples, of marks in bytes. */
 enum eq_number {
     EQ_SERVED = 0,
     EQ_ODD = 1,       /* a complex slice has an odd count of floats */
@@ -48,6 +61,9 @@ typedef struct {
     uint32_t cma_symbols;   /* samples in the blind mode; 4294967295: all */
 } EqSettings;
 
+/* QPSK, no feedback taps: EqSettings settings = EQ_DEFAULT_SETTINGS; */
+#define EQ_DEFAULT_SETTINGS {0.02, 0, EQ_QPSK, 0.05f, 0.02f, 1000}
+
 /* The record: the settings and what runs along with the samples. */
 typedef struct {
     EqSettings settings;
@@ -67,8 +83,27 @@ typedef struct {
     size_t got;
 } EqReply;
 
-/* A new equalizer: sets weights and window and replies its record, all zeros where it is refused. Refusals 1 to 7, and 8 for an unknown
- * constellation, tried after 1. */
+/* A reply's number in words. */
+static inline const char *eq_strerror(uint32_t number)
+{
+    switch (number) {
+    case EQ_SERVED: return "served";
+    case EQ_ODD: return "a complex slice has an odd count of floats";
+    case EQ_FEEDBACK: return "over 63 feedback taps";
+    case EQ_TAPS: return "forward taps even or outside 3 to 63, or fewer weights than feedback taps";
+    case EQ_WINDOW: return "the window's length is not the weights'";
+    case EQ_MU_CMA: return "mu_cma outside 0.00001 to 1";
+    case EQ_MU_DD: return "mu_dd outside 0.00001 to 1";
+    case EQ_BANDWIDTH: return "the bandwidth is neither 0 nor 0.0001 to 0.2";
+    case EQ_RECORD: return "the record breaks a rule, or a number of it stands for no constellation or mode";
+    case EQ_OUTPUT: return "the output's length is not the input's";
+    case EQ_MARKS: return "the marks' length is not the input's";
+    default: return "unknown number";
+    }
+}
+
+/* A new equalizer: sets weights and window and replies its record, all zeros where it is refused. Forward taps are the weights less the feedback
+ * taps. Refusals 1 to 7, and 8 for an unknown constellation, tried after 1. */
 EqReply eq_new(EqSettings settings, float *weights, size_t weights_count, float *window, size_t window_count);
 
 /* Back to the start, settings and gains kept. Refusals 1 and 8. */
@@ -81,7 +116,8 @@ EqReply eq_set_mu_dd(EqRecord record, float mu);
 /* The tracker's frequency: held to 0.125, below 1e-30 is 0, a NaN is 0. Refusal 8 for an unknown constellation or mode. */
 EqReply eq_set_frequency(EqRecord record, float freq);
 
-/* A block: a symbol and a mark for each sample. Quick path without feedback taps, joint path with them. Refusals 1, 8, 9 and 10. */
+/* A block: a symbol and a mark for each sample. Quick path without feedback taps, joint path with them. A block may be empty, and the cut of a stream
+ * into blocks does not matter. Refusals 1, 8, 9 and 10. */
 EqReply eq_equalize(EqRecord record, float *weights, size_t weights_count, float *window, size_t window_count,
                     const float *input, size_t input_count, float *output, size_t output_count, uint8_t *marks, size_t marks_count);
 

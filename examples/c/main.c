@@ -12,10 +12,10 @@ int main(void)
     static const char *const says[] = {[EQ_HEARD] = "heard", [EQ_BLANK] = "blank", [EQ_SPILLED] = "spilled"};
     float weights[2 * TAPS], window[2 * TAPS], input[2 * SAMPLES], output[2 * SAMPLES];
     uint8_t marks[SAMPLES];
-    EqSettings settings = {0.02, 0, EQ_QPSK, 0.05f, 0.02f, 1000};
+    EqSettings settings = EQ_DEFAULT_SETTINGS;
     EqReply r = eq_new(settings, weights, 2 * TAPS, window, 2 * TAPS);
     if (r.number != EQ_SERVED) {
-        printf("new: refused, %u\n", (unsigned)r.number);
+        printf("new: refused, number %u, %s\n", (unsigned)r.number, eq_strerror(r.number));
         return 1;
     }
     /* four points in turn, with an echo; one sample is lost */
@@ -27,13 +27,13 @@ int main(void)
     input[2 * 8] = NAN;
 
     r = eq_equalize(r.record, weights, 2 * TAPS, window, 2 * TAPS, input, 2 * SAMPLES, output, 2 * SAMPLES, marks, SAMPLES);
-    printf("equalize: number %u, count %u, mean error %.4f\n", (unsigned)r.number, (unsigned)r.record.count, r.record.mse);
+    printf("equalize: %s, count %u, mean error %.4f\n", eq_strerror(r.number), (unsigned)r.record.count, r.record.mse);
     for (int i = 0; i < SAMPLES; i++)
         printf("%2d  %8.5f %8.5f  %s\n", i, output[2 * i], output[2 * i + 1],
                marks[i] < sizeof says / sizeof *says ? says[marks[i]] : "unknown");
 
     /* one mark too few */
     r = eq_equalize(r.record, weights, 2 * TAPS, window, 2 * TAPS, input, 2 * SAMPLES, output, 2 * SAMPLES, marks, SAMPLES - 1);
-    printf("refused: number %u, expected %zu, got %zu\n", (unsigned)r.number, r.expected, r.got);
+    printf("refused: number %u, %s: expected %zu, got %zu\n", (unsigned)r.number, eq_strerror(r.number), r.expected, r.got);
     return 0;
 }

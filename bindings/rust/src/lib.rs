@@ -1,7 +1,16 @@
-//! The adaptive equalizer: a safe type that owns its weights and window and calls the proved
-//! library. All tests, all arithmetic and all refusals are the library's.
+//! The adaptive equalizer: a safe type, [`Equalizer`], that owns its weights and window and calls
+//! the proved library. All tests, all arithmetic and all refusals are the library's.
 //!
 //! Samples are interleaved `f32`, real part first.
+//!
+//! - Refusals: a refused call leaves the equalizer and all slices as they came. [`Error`] says why.
+//! - Threads: the library has no global state. An `Equalizer` is `Send` and `Sync`, and different
+//!   ones may be called at once.
+//! - Delay: the symbol of sample i belongs to the sample (forward taps - 1) / 2 earlier, that of the
+//!   centre tap; its mark belongs to sample i itself.
+//! - Level: the points of each constellation have mean power 1. Bring the input near that level.
+
+#![warn(missing_docs)]
 
 pub mod ffi;
 
@@ -14,33 +23,56 @@ pub const BLANK: u8 = 1;
 /// Of one that is finite where its filter sum is not.
 pub const SPILLED: u8 = 2;
 
+/// The constellation, with its number. Its points have mean power 1.
 #[derive(Debug, Clone, Copy, PartialEq, Eq)]
 pub enum Constellation {
-    Bpsk,
-    Qpsk,
-    Psk8,
-    Qam16,
-    Qam64,
+    /// (±1, 0).
+    Bpsk = 0,
+    /// (±A, ±A), A being 1 / sqrt 2.
+    Qpsk = 1,
+    /// 8-PSK: at odd sixteenths of a turn.
+    Psk8 = 2,
+    /// 16-QAM: parts ±1 and ±3 over sqrt 10.
+    Qam16 = 3,
+    /// 64-QAM: parts ±1, ±3, ±5 and ±7 over sqrt 42.
+    Qam64 = 4,
 }
 
+/// The mode, with its number.
 #[derive(Debug, Clone, Copy, PartialEq, Eq)]
 pub enum Mode {
-    Cma,
-    Decision,
+    /// Blind, by the constant modulus.
+    Cma = 0,
+    /// Against the nearest point.
+    Decision = 1,
 }
 
 /// The settings.
+///
+/// ```
+/// use equalizer::{Constellation, Settings};
+///
+/// let s = Settings { constellation: Constellation::Qam16, feedback_taps: 4, ..Settings::default() };
+/// assert_eq!((s.mu_cma, s.mu_dd, s.cma_symbols, s.phase_bw), (0.05, 0.02, 1000, 0.02));
+/// ```
 #[derive(Debug, Clone, Copy, PartialEq)]
 pub struct Settings {
+    /// What was sent.
     pub constellation: Constellation,
+    /// 0 to 63.
     pub feedback_taps: usize,
+    /// Step size of the blind mode, 0.00001 to 1.
     pub mu_cma: f32,
+    /// Step size against decisions, 0.00001 to 1.
     pub mu_dd: f32,
+    /// Samples in the blind mode; `u32::MAX`: all.
     pub cma_symbols: u32,
+    /// Bandwidth of the phase tracker, 0.0001 to 0.2; 0 switches it off.
     pub phase_bw: f64,
 }
 
 impl Default for Settings {
+    /// QPSK, no feedback taps.
     fn default() -> Self {
         Settings {
             constellation: Constellation::Qpsk,
@@ -56,17 +88,39 @@ impl Default for Settings {
 /// The record: the settings and what runs along with the samples.
 #[derive(Debug, Clone, Copy, PartialEq)]
 pub struct Record {
+    /// The settings.
     pub settings: Settings,
+    /// A gain of the phase tracker, from the bandwidth.
     pub kp: f32,
+    /// The other.
     pub ki: f32,
+    /// The mode.
     pub mode: Mode,
+    /// Samples seen in the blind mode.
     pub count: u32,
+    /// Mean error.
     pub mse: f32,
+    /// In 2^32nds of a turn.
     pub phase: u32,
+    /// In turns per sample.
     pub freq: f32,
 }
 
-/// The refusals. Lengths are in complex samples, of marks in bytes.
+/// The refusals, 1 to 10 in this order. Lengths are in complex samples, of marks in bytes.
+///
+/// ```
+/// use equalizer::{Equalizer, Error, Settings};
+///
+/// let mut e = Equalizer::new(11, Settings::default())?;
+/// let why = e.equalize(&[0.7; 40], &mut [0.0; 38], &mut [0; 20]).unwrap_err();
+/// assert_eq!(why, Error::Output { expected: 20, got: 19 });
+/// assert_eq!(why.number(), 9);
+/// assert_eq!(
+///     why.to_string(),
+///     "refused, number 9: the output's length is not the input's: 20 expected, 19 given"
+/// );
+/// # Ok::<(), Error>(())
+/// ```
 #[derive(Debug, Clone, Copy, PartialEq, Eq)]
 pub enum Error {
     /// A complex slice has an odd count of f32.
@@ -77,22 +131,31 @@ pub enum Error {
     Taps,
     /// The window's length is not the weights'.
     Window {
+        /// The weights' length.
         expected: usize,
+        /// The window's.
         got: usize,
     },
+    /// `mu_cma` outside 0.00001 to 1.
     MuCma,
+    /// `mu_dd` outside 0.00001 to 1.
     MuDd,
+    /// The bandwidth is neither 0 nor 0.0001 to 0.2.
     Bandwidth,
-    /// The record breaks a rule.
+    /// The record breaks a rule: only after [`Equalizer::from_parts`].
     Record,
     /// The output's length is not the input's.
     Output {
+        /// The input's length.
         expected: usize,
+        /// The output's.
         got: usize,
     },
     /// The marks' length is not the input's.
     Marks {
+        /// The input's length.
         expected: usize,
+        /// The marks'.
         got: usize,
     },
     /// A number that none of these has.
@@ -116,14 +179,39 @@ impl Error {
             Error::Unknown(number) => number,
         }
     }
+
+    /// The words of `eq_strerror` in include/equalizer.h.
+    fn words(self) -> &'static str {
+        match self {
+            Error::Odd => "a complex slice has an odd count of floats",
+            Error::Feedback => "over 63 feedback taps",
+            Error::Taps => {
+                "forward taps even or outside 3 to 63, or fewer weights than feedback taps"
+            }
+            Error::Window { .. } => "the window's length is not the weights'",
+            Error::MuCma => "mu_cma outside 0.00001 to 1",
+            Error::MuDd => "mu_dd outside 0.00001 to 1",
+            Error::Bandwidth => "the bandwidth is neither 0 nor 0.0001 to 0.2",
+            Error::Record => {
+                "the record breaks a rule, or a number of it stands for no constellation or mode"
+            }
+            Error::Output { .. } => "the output's length is not the input's",
+            Error::Marks { .. } => "the marks' length is not the input's",
+            Error::Unknown(_) => "unknown number",
+        }
+    }
 }
 
 impl std::fmt::Display for Error {
+    /// The number, the words and the two lengths, where there are some.
     fn fmt(&self, f: &mut std::fmt::Formatter<'_>) -> std::fmt::Result {
-        if let Error::Unknown(number) = self {
-            return write!(f, "unknown refusal, number {number}");
+        write!(f, "refused, number {}: {}", self.number(), self.words())?;
+        match self {
+            Error::Window { expected, got }
+            | Error::Output { expected, got }
+            | Error::Marks { expected, got } => write!(f, ": {expected} expected, {got} given"),
+            _ => Ok(()),
         }
-        write!(f, "refused, number {}: {self:?}", self.number())
     }
 }
 
@@ -155,6 +243,19 @@ fn outcome(r: EqReply) -> Result<EqRecord, Error> {
 }
 
 /// An equalizer with its weights and window. A refused call leaves it as it was.
+///
+/// ```
+/// use equalizer::{BLANK, Equalizer, Error, Settings};
+///
+/// let mut e = Equalizer::new(3, Settings::default())?;
+/// let input = [0.7, 0.7, f32::NAN, 0.0, -0.7, 0.7, 0.7, -0.7]; // four samples, one of them lost
+/// let (mut output, mut marks) = ([9.0; 8], [9; 4]);
+/// e.equalize(&input, &mut output, &mut marks)?;
+/// assert_eq!(marks, [0, BLANK, 0, 0]);
+/// assert_eq!(output[2..4], [0.0, 0.0]);
+/// assert_eq!(e.count(), 4);
+/// # Ok::<(), Error>(())
+/// ```
 #[derive(Debug, Clone, PartialEq)]
 pub struct Equalizer {
     record: EqRecord,
@@ -164,13 +265,24 @@ pub struct Equalizer {
 
 impl Equalizer {
     /// An equalizer of `taps` forward taps. Refusals 2, 3, 5, 6 and 7.
+    ///
+    /// ```
+    /// use equalizer::{Constellation, Equalizer, Error, Mode, Settings};
+    ///
+    /// let settings = Settings { constellation: Constellation::Psk8, feedback_taps: 5, ..Settings::default() };
+    /// let e = Equalizer::new(15, settings)?;
+    /// assert_eq!((e.taps(), e.feedback_taps(), e.mode()), (15, 5, Mode::Cma));
+    /// assert_eq!(Equalizer::new(4, settings), Err(Error::Taps));
+    /// # Ok::<(), Error>(())
+    /// ```
     pub fn new(taps: usize, settings: Settings) -> Result<Self, Error> {
         // Room for all that is served; of more taps the library sees 65 or 64, which it refuses too.
         let n = taps.min(65) + settings.feedback_taps.min(64);
         Self::with_buffers(settings, vec![0.0; 2 * n], vec![0.0; 2 * n])
     }
 
-    /// The same over buffers of the caller. Refusals 1 to 7.
+    /// The same over buffers of the caller, whatever they hold: forward taps, then feedback taps.
+    /// Refusals 1 to 7.
     pub fn with_buffers(
         settings: Settings,
         mut weights: Vec<f32>,
@@ -240,7 +352,8 @@ impl Equalizer {
         served.expect("this type's records have known numbers, and nothing else is refused");
     }
 
-    /// A block: a symbol and a mark for each sample. Refusals 1, 8, 9 and 10.
+    /// A block: a symbol and a mark for each sample. It may be empty, and the cut of a stream into
+    /// blocks does not matter. Refusals 1, 8, 9 and 10.
     #[inline]
     pub fn equalize(
         &mut self,
@@ -296,53 +409,62 @@ impl Equalizer {
         Ok(())
     }
 
+    /// The whole record.
     pub fn record(&self) -> Record {
         record_in(self.record)
     }
 
+    /// The settings.
     pub fn settings(&self) -> Settings {
         settings_in(self.record.settings)
     }
 
+    /// The constellation.
     pub fn constellation(&self) -> Constellation {
         self.settings().constellation
     }
 
+    /// The mode of the next sample.
     pub fn mode(&self) -> Mode {
         self.record().mode
     }
 
+    /// Samples seen in the blind mode.
     pub fn count(&self) -> u32 {
         self.record.count
     }
 
+    /// The mean error.
     pub fn mse(&self) -> f32 {
         self.record.mse
     }
 
-    /// In 2^32nds of a turn.
+    /// The tracker's phase, in 2^32nds of a turn.
     pub fn phase(&self) -> u32 {
         self.record.phase
     }
 
-    /// In turns per sample.
+    /// The tracker's frequency, in turns per sample.
     pub fn frequency(&self) -> f32 {
         self.record.freq
     }
 
-    /// kp and ki.
+    /// The tracker's gains, kp and ki.
     pub fn phase_gains(&self) -> (f32, f32) {
         (self.record.kp, self.record.ki)
     }
 
+    /// The step size of the blind mode.
     pub fn mu_cma(&self) -> f32 {
         self.record.settings.mu_cma
     }
 
+    /// The step size against decisions.
     pub fn mu_dd(&self) -> f32 {
         self.record.settings.mu_dd
     }
 
+    /// Samples in the blind mode; `u32::MAX`: all.
     pub fn cma_symbols(&self) -> u32 {
         self.record.settings.cma_symbols
     }
@@ -352,6 +474,7 @@ impl Equalizer {
         (self.weights.len() / 2).saturating_sub(self.feedback_taps())
     }
 
+    /// The feedback taps.
     pub fn feedback_taps(&self) -> usize {
         self.record.settings.feedback_taps
     }
@@ -371,13 +494,7 @@ fn settings_out(s: Settings) -> EqSettings {
     EqSettings {
         phase_bw: s.phase_bw,
         feedback_taps: s.feedback_taps,
-        constellation: match s.constellation {
-            Constellation::Bpsk => 0,
-            Constellation::Qpsk => 1,
-            Constellation::Psk8 => 2,
-            Constellation::Qam16 => 3,
-            Constellation::Qam64 => 4,
-        },
+        constellation: s.constellation as u32,
         mu_cma: s.mu_cma,
         mu_dd: s.mu_dd,
         cma_symbols: s.cma_symbols,
@@ -407,10 +524,7 @@ fn record_out(r: Record) -> EqRecord {
         settings: settings_out(r.settings),
         kp: r.kp,
         ki: r.ki,
-        mode: match r.mode {
-            Mode::Cma => 0,
-            Mode::Decision => 1,
-        },
+        mode: r.mode as u32,
         count: r.count,
         mse: r.mse,
         phase: r.phase,
@@ -453,19 +567,49 @@ mod tests {
     #[test]
     fn every_number() {
         assert!(replied(0).is_ok());
-        for number in 1..=10 {
+        let words = [
+            "a complex slice has an odd count of floats",
+            "over 63 feedback taps",
+            "forward taps even or outside 3 to 63, or fewer weights than feedback taps",
+            "the window's length is not the weights': 3 expected, 4 given",
+            "mu_cma outside 0.00001 to 1",
+            "mu_dd outside 0.00001 to 1",
+            "the bandwidth is neither 0 nor 0.0001 to 0.2",
+            "the record breaks a rule, or a number of it stands for no constellation or mode",
+            "the output's length is not the input's: 3 expected, 4 given",
+            "the marks' length is not the input's: 3 expected, 4 given",
+        ];
+        for (number, words) in (1..).zip(words) {
             let e = replied(number).unwrap_err();
             assert_eq!(e.number(), number);
             assert!(!matches!(e, Error::Unknown(_)));
-            assert!(
-                e.to_string()
-                    .starts_with(&format!("refused, number {number}: "))
-            );
+            assert_eq!(e.to_string(), format!("refused, number {number}: {words}"));
         }
         for number in [11, u32::MAX] {
             let e = replied(number).unwrap_err();
             assert_eq!((e, e.number()), (Error::Unknown(number), number));
-            assert_eq!(e.to_string(), format!("unknown refusal, number {number}"));
+            let said = format!("refused, number {number}: unknown number");
+            assert_eq!(e.to_string(), said);
+        }
+    }
+
+    /// The numbers of constellations and modes, out and in again.
+    #[test]
+    fn numbers_there_and_back() {
+        let e = Equalizer::new(3, Settings::default()).unwrap();
+        for number in 0..5 {
+            let settings = EqSettings {
+                constellation: number,
+                ..e.record.settings
+            };
+            assert_eq!(settings_out(settings_in(settings)), settings);
+        }
+        for number in 0..2 {
+            let record = EqRecord {
+                mode: number,
+                ..e.record
+            };
+            assert_eq!(record_out(record_in(record)), record);
         }
     }
 }

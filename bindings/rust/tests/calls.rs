@@ -196,6 +196,38 @@ fn any_cut_gives_the_same() {
     assert_eq!((joined, cut), (output, whole));
 }
 
+/// The symbol of sample i is that of the sample (taps - 1) / 2 earlier; its mark is its own.
+#[test]
+fn the_delay() {
+    for taps in [3, 11, 63] {
+        let mut e = Equalizer::new(taps, Settings::default()).unwrap();
+        let mut input = vec![0.0; 200];
+        input[0] = 0.5;
+        input[199] = f32::NAN;
+        let (output, marks) = run(&mut e, &input);
+        let first = output.iter().position(|&y| y != 0.0);
+        assert_eq!(first, Some(2 * ((taps - 1) / 2)));
+        assert_eq!(marks.iter().position(|&m| m == BLANK), Some(99));
+    }
+}
+
+/// Different equalizers at once do what one does alone.
+#[test]
+fn threads() {
+    let input = samples(2000);
+    let mut alone = qpsk();
+    let told = run(&mut alone, &input);
+    std::thread::scope(|s| {
+        for _ in 0..4 {
+            s.spawn(|| {
+                let mut e = qpsk();
+                assert_eq!(run(&mut e, &input), told);
+                assert_eq!(e, alone);
+            });
+        }
+    });
+}
+
 #[test]
 fn equalize_refuses() {
     let x = samples(4);
