@@ -60,9 +60,6 @@ def gate():
     write(os.path.join(crate, "stdin"), samples)
     write(os.path.join(data, "small.cf32"), samples[:20])
     write(os.path.join(data, "empty.cf32"), [])
-    write(os.path.join(data, "cut.cf32"), samples[:4])
-    with open(os.path.join(data, "cut.cf32"), "ab") as f:
-        f.write(b"\x00\x00\x80\x3f")
 
 
 if __name__ == "__main__":

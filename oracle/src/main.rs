@@ -27,6 +27,7 @@ const USAGE: &str = "usage: oracle leaves OUT_FOLDER
        oracle others SEED COUNT [FILE]
        oracle answer [FILE]        (cases from the standard input)
        oracle demo RECORDING [FILE]
+       oracle stream RECORDING [OPTION VALUE]..    (options as the program's; symbols go to the standard output)
        oracle bench [SECONDS]      (with the feature bench)";
 
 fn main() -> ExitCode {
@@ -62,7 +63,12 @@ fn run(words: &[&str]) -> io::Result<bool> {
             given::write(&mut io::stdin().lock(), &mut out(file)?)
         }
         ["demo", recording, ref file @ ..] if file.len() < 2 => {
-            recording::write(&mut File::open(recording)?, &mut out(file)?).map(|()| true)
+            let (mut input, mut out) = (File::open(recording)?, out(file)?);
+            recording::write(&mut input, &recording::DEMO, &mut out).map(|()| true)
+        }
+        ["stream", recording, ref words @ ..] => {
+            let (mut input, mut out) = (File::open(recording)?, out(&[])?);
+            recording::write(&mut input, words, &mut out).map(|()| true)
         }
         #[cfg(feature = "bench")]
         ["bench"] => bench::write(&mut io::stdout(), 1),
