@@ -2,7 +2,6 @@
 mod options;
 mod outputs;
 mod report;
-mod stream;
 
 ghost use Prim.Native.Nat.{_≤_};
 ghost use Rattle.program.specs.Status.{ExitStatus};
@@ -10,6 +9,7 @@ use crate::options::Asked;
 use crate::options::Options;
 use crate::outputs::Outputs;
 use crate::outputs::Ready;
+use equalizer_stream::Ways;
 use types::EqualizeState;
 use types::Fresh;
 
@@ -175,7 +175,12 @@ fn with_files(
 ) -> i32
     ensures { λ r. ⌜ ExitStatus r ⌝ }
 {
-    let done = stream::all(o, outputs::files_of(input, f), state, weights, window);
+    let ways = Ways {
+        plain: o.plain,
+        block: o.block,
+        text: o.text,
+    };
+    let done = equalizer_stream::all(ways, outputs::files_of(input, f), state, weights, window);
     let v = o.input;
     program::files::close_input(v, input);
     report::done(o, done);

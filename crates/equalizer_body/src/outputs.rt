@@ -1,5 +1,6 @@
 // The files of a run.
 use crate::options::Options;
+use equalizer_stream::Files;
 use program::arguments::Value;
 use program::files;
 use program::files::Opened;
@@ -16,14 +17,6 @@ pub(crate) struct Outputs {
 pub(crate) enum Ready {
     All(Outputs),
     NotAll,
-}
-
-// The descriptors of a run; -1 where an output is not wanted.
-pub(crate) struct Files {
-    pub(crate) input: i32,
-    pub(crate) output: i32,
-    pub(crate) marks: i32,
-    pub(crate) curve: i32,
 }
 
 // Makes an output beside two that are made: no two of them are one file.

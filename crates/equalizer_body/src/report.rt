@@ -2,10 +2,9 @@
 ghost use Rattle.program.specs.Status.{ExitStatus};
 use crate::options;
 use crate::options::Options;
-use crate::stream;
-use crate::stream::Done;
-use crate::stream::Ending;
-use crate::stream::Tally;
+use equalizer_stream::Done;
+use equalizer_stream::Ending;
+use equalizer_stream::Tally;
 use libc::STDOUT_FILENO;
 use program::arguments::Fault;
 use program::arguments::Value;
@@ -164,7 +163,7 @@ fn record(s: EqualizeState) {
     let mut p = [0u8; 8192];
     let m = s.mode;
     let a = begin(&mut p, b"mode ");
-    let b = stream::mode(&mut p, a, m);
+    let b = equalizer_stream::mode(&mut p, a, m);
     let c = measured(&mut p, b, b", mean error ", s.mse);
     let d = measured(&mut p, c, b", frequency ", s.freq);
     let e = text::words(&mut p, d, b" turns per sample");

@@ -1,8 +1,6 @@
 // A stream of samples, of any length, by calls of at most 4,096. What the calls give for what was read at once is written at once.
 ghost use Prim.Native.Nat.{_*_, _≤_, _<_};
-ghost use Rattle.equalizer_body.specs.Room.{Holds};
-use crate::options::Options;
-use crate::outputs::Files;
+ghost use Rattle.equalizer_stream.specs.Room.{Holds};
 use program::text;
 use types::EqMode;
 use types::EqualizeState;
@@ -11,17 +9,32 @@ use types::Error;
 use types::Mark;
 use types::Outcome;
 
-pub(crate) struct Tally {
-    pub(crate) samples: u64,
-    pub(crate) heard: u64,
-    pub(crate) blank: u64,
-    pub(crate) spilled: u64,
+// How a stream is served: by the plain path or the fast one, how many samples a call, as text or as bytes.
+pub struct Ways {
+    pub plain: bool,
+    pub block: usize,
+    pub text: bool,
+}
+
+// The descriptors of a stream; -1 where an output is not wanted.
+pub struct Files {
+    pub input: i32,
+    pub output: i32,
+    pub marks: i32,
+    pub curve: i32,
+}
+
+pub struct Tally {
+    pub samples: u64,
+    pub heard: u64,
+    pub blank: u64,
+    pub spilled: u64,
     // Bytes that are no mark's number.
-    pub(crate) unknown: u64,
+    pub unknown: u64,
 }
 
 impl Tally {
-    pub(crate) const NONE: Tally = Tally {
+    pub const NONE: Tally = Tally {
         samples: 0,
         heard: 0,
         blank: 0,
@@ -30,13 +43,13 @@ impl Tally {
     };
 }
 
-pub(crate) struct Progress {
-    pub(crate) state: EqualizeState,
-    pub(crate) tally: Tally,
+pub struct Progress {
+    pub state: EqualizeState,
+    pub tally: Tally,
 }
 
 // How a stream ended. A failed read or write has the system's error, and a write which output it was: 0 symbols, 1 marks, 2 the curve.
-pub(crate) enum Ending {
+pub enum Ending {
     Whole,
     // The bytes that are left over.
     Truncated(usize),
@@ -45,13 +58,13 @@ pub(crate) enum Ending {
     Refused(Error),
 }
 
-pub(crate) struct Done {
-    pub(crate) progress: Progress,
-    pub(crate) ending: Ending,
+pub struct Done {
+    pub progress: Progress,
+    pub ending: Ending,
 }
 
 impl Done {
-    pub(crate) fn is_whole(self) -> bool {
+    pub fn is_whole(self) -> bool {
         let e = self.ending;
         match e {
             Ending::Whole => true,
@@ -193,7 +206,7 @@ fn lines(fd: i32, y: &[f32], marks: &[u8], count: usize) -> bool {
     text::send(fd, &p, at)
 }
 
-pub(crate) fn mode(p: &mut [u8], at: usize, m: EqMode) -> usize {
+pub fn mode(p: &mut [u8], at: usize, m: EqMode) -> usize {
     match m {
         EqMode::Cma => text::words(p, at, b"cma"),
         EqMode::Decision => text::words(p, at, b"decision"),
@@ -210,13 +223,14 @@ fn point(p: &mut [u8], start: usize, t: Tally, s: EqualizeState) -> usize {
     text::words(p, d, b"\n")
 }
 
-// A point, where a curve is wanted.
-fn drawn(fd: i32, p: &mut [u8], page: Page, t: Tally, s: EqualizeState) -> Page {
-    if fd < 0 || !page.sent {
-        return page;
+// Writes a point, where a curve is wanted.
+fn drawn(fd: i32, t: Tally, s: EqualizeState) -> bool {
+    if fd < 0 {
+        return true;
     }
-    let at = point(p, page.at, t, s);
-    turned(fd, p, at)
+    let mut p = [0u8; 128];
+    let at = point(&mut p, 0, t, s);
+    text::send(fd, &p, at)
 }
 
 fn ended_by(got: Filled) -> Ending {
@@ -317,24 +331,22 @@ fn until(at: usize, block: usize, n: usize) -> usize
     n
 }
 
-// What a call gave: how far it came, with the curve's page; or its refusal.
+// What a call gave: how far it came, or how it ended the stream.
 enum Onward {
-    To(Progress, Page),
-    Refused(Error),
+    To(Progress),
+    End(Ending),
 }
 
-// One call, its marks counted and its point drawn.
+// One call on the samples from `at` to before `to`, its marks counted and its point drawn.
 fn called(
-    o: Options,
+    o: Ways,
     curve: i32,
     p: Progress,
-    page: Page,
     weights: &mut [f32],
     window: &mut [f32],
     raw: &[u8],
     out: &mut [u8],
     marks: &mut [u8],
-    points: &mut [u8],
     at: usize,
     to: usize,
 ) -> Onward
@@ -355,24 +367,23 @@ fn called(
     let next = e.state;
     let outcome = e.outcome;
     match outcome {
-        Outcome::Refused(error) => Onward::Refused(error),
+        Outcome::Refused(error) => Onward::End(Ending::Refused(error)),
         Outcome::Served => {
             let t = tallied(p.tally, marks, at, to);
-            let g = drawn(curve, points, page, t, next);
-            Onward::To(
-                Progress {
+            if drawn(curve, t, next) {
+                return Onward::To(Progress {
                     state: next,
                     tally: t,
-                },
-                g,
-            )
+                });
+            }
+            Onward::End(Ending::Unwritten(2, os::errno()))
         }
     }
 }
 
 // Equalizes the n samples that were read, by calls of a block.
 fn calls(
-    o: Options,
+    o: Ways,
     curve: i32,
     start: Progress,
     weights: &mut [f32],
@@ -380,39 +391,21 @@ fn calls(
     raw: &[u8],
     out: &mut [u8],
     marks: &mut [u8],
-    points: &mut [u8],
     n: usize,
 ) -> Batch
     requires { ⌜ Holds n (now raw) (now out) (now marks) ⌝ }
 {
-    let mut page = Page { at: 0, sent: true };
     let mut p = start;
     let mut at = 0;
     while at < n {
         let to = until(at, o.block, n);
-        match called(
-            o,
-            curve,
-            p,
-            page,
-            weights,
-            window,
-            raw,
-            out,
-            marks,
-            points,
-            at,
-            to,
-        ) {
-            Onward::To(q, g) => {
-                p = q;
-                page = g;
-            }
-            Onward::Refused(error) => {
+        match called(o, curve, p, weights, window, raw, out, marks, at, to) {
+            Onward::To(q) => p = q,
+            Onward::End(e) => {
                 return Batch {
                     progress: p,
                     count: at,
-                    ending: Ending::Refused(error),
+                    ending: e,
                 };
             }
         }
@@ -421,15 +414,8 @@ fn calls(
     Batch {
         progress: p,
         count: n,
-        ending: drawn_ending(page.sent && text::send(curve, points, page.at)),
+        ending: Ending::Whole,
     }
-}
-
-fn drawn_ending(sent: bool) -> Ending {
-    if sent {
-        return Ending::Whole;
-    }
-    Ending::Unwritten(2, os::errno())
 }
 
 fn symbols(fd: i32, is_text: bool, out: &[u8], marks: &[u8], n: usize) -> bool
@@ -444,7 +430,7 @@ fn symbols(fd: i32, is_text: bool, out: &[u8], marks: &[u8], n: usize) -> bool
 }
 
 // Writes what the calls gave for n samples.
-fn deliver(o: Options, f: Files, out: &[u8], marks: &[u8], n: usize) -> Ending
+fn deliver(o: Ways, f: Files, out: &[u8], marks: &[u8], n: usize) -> Ending
     requires { ⌜ 8 * n ≤ 32768 ⌝ }
 {
     if !symbols(f.output, o.text, out, marks, n) {
@@ -478,13 +464,6 @@ fn after(b: Batch, got: Filled) -> Turn {
     })
 }
 
-// The most samples up to n, and to 4,096, that the slices have room for.
-fn room(n: usize, raw: usize, out: usize, marks: usize) -> usize
-    ensures { λ r. ⌜ (r ≤ 4096) × ((8 * r ≤ raw) × ((8 * r ≤ out) × (r ≤ marks))) ⌝ }
-{
-    least(least(n, 4096), least(least(raw / 8, out / 8), marks))
-}
-
 // Whether the input is a file, of which as much can be read at once as one likes; a pipe is served block by block.
 fn is_file(fd: i32) -> bool {
     libc::lseek(fd, 0, libc::SEEK_CUR) >= 0
@@ -506,22 +485,32 @@ fn at_once(fd: i32, block: usize) -> usize {
 
 // Reads, equalizes and writes.
 fn one_turn(
-    o: Options,
+    o: Ways,
     f: Files,
     p: Progress,
     weights: &mut [f32],
     window: &mut [f32],
-    raw: &mut [u8],
-    out: &mut [u8],
-    marks: &mut [u8],
-    points: &mut [u8],
     want: usize,
 ) -> Turn {
-    let most = room(want, raw.len(), out.len(), marks.len());
-    let got = fill(f.input, raw, 8 * most);
-    let n = least(got.bytes / 8, most);
-    let b = calls(o, f.curve, p, weights, window, raw, out, marks, points, n);
-    let e = deliver(o, f, out, marks, least(b.count, 4096));
+    let mut raw = [0u8; 32768];
+    let mut out = [0u8; 32768];
+    let mut marks = [0u8; 4096];
+    let most = least(want, 4096);
+    let got = fill(f.input, &mut raw, 8 * most);
+    let n = least(got.bytes / 8, 4096);
+    let b = calls(
+        o,
+        f.curve,
+        p,
+        weights,
+        window,
+        &raw,
+        &mut out,
+        &mut marks,
+        n,
+    );
+    let count = least(b.count, 4096);
+    let e = deliver(o, f, &out, &marks, count);
     let d = Done {
         progress: p,
         ending: e,
@@ -533,16 +522,12 @@ fn one_turn(
 }
 
 // A proved loop has to end, and nothing says that a stream does: the turns are counted down from a number that no stream uses up.
-fn turns(
-    o: Options,
+pub fn all(
+    o: Ways,
     f: Files,
     start: EqualizeState,
     weights: &mut [f32],
     window: &mut [f32],
-    raw: &mut [u8],
-    out: &mut [u8],
-    marks: &mut [u8],
-    points: &mut [u8],
 ) -> Done {
     let want = at_once(f.input, o.block);
     let mut p = Progress {
@@ -551,7 +536,7 @@ fn turns(
     };
     let mut turns = 0xffff_ffff_ffff_ffffu64;
     while turns > 0 {
-        match one_turn(o, f, p, weights, window, raw, out, marks, points, want) {
+        match one_turn(o, f, p, weights, window, want) {
             Turn::More(q) => p = q,
             Turn::End(d) => return d,
         }
@@ -561,28 +546,4 @@ fn turns(
         progress: p,
         ending: Ending::Unread(0),
     }
-}
-
-pub(crate) fn all(
-    o: Options,
-    f: Files,
-    start: EqualizeState,
-    weights: &mut [f32],
-    window: &mut [f32],
-) -> Done {
-    let mut raw = [0u8; 32768];
-    let mut out = [0u8; 32768];
-    let mut marks = [0u8; 4096];
-    let mut points = [0u8; 8192];
-    turns(
-        o,
-        f,
-        start,
-        weights,
-        window,
-        &mut raw,
-        &mut out,
-        &mut marks,
-        &mut points,
-    )
 }

@@ -1,10 +1,10 @@
--- `equalizer_body::stream::lines` is safe and ends. Assumes nothing.
+-- `equalizer_stream::lines` is safe and ends. Assumes nothing.
 use borrow.Author.Needs.{needs}
 use Prim.Native.Nat.{_≤_, _-_}
 use mathlib.Core.Path.{_≡_}
 use lib.ListN.{length}
-use Rattle.equalizer_body.proofs.stream.lines.Statement.{statement}
-use Rattle.equalizer_body.proofs.stream.lines.Tie as tie
+use Rattle.equalizer_stream.proofs.lines.Statement.{statement}
+use Rattle.equalizer_stream.proofs.lines.Tie as tie
 
 abbrev Inv-loop : tie.InvT-loop
 Inv-loop fd y marks count p₀ at₀ i₀ n p at i = (i ≤ n) × (length p ≡ 8192)

@@ -1,8 +1,8 @@
--- `equalizer_body::stream::tallied` is safe and ends. Assumes nothing.
+-- `equalizer_stream::tallied` is safe and ends. Assumes nothing.
 use borrow.Author.Needs.{needs}
 use Prim.Native.Nat.{_-_}
-use Rattle.equalizer_body.proofs.stream.tallied.Statement.{statement}
-use Rattle.equalizer_body.proofs.stream.tallied.Tie as tie
+use Rattle.equalizer_stream.proofs.tallied.Statement.{statement}
+use Rattle.equalizer_stream.proofs.tallied.Tie as tie
 
 abbrev Inv-loop : tie.InvT-loop
 Inv-loop marks from to t₀ i₀ end t i = Unit {0}

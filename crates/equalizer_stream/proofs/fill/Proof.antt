@@ -1,10 +1,10 @@
--- `equalizer_body::stream::fill` is safe and ends. Assumes nothing.
+-- `equalizer_stream::fill` is safe and ends. Assumes nothing.
 use borrow.Author.Needs.{needs}
 use Prim.Native.Nat.{_≤_, _-_}
 use mathlib.Core.Path.{_≡_}
 use lib.ListN.{length}
-use Rattle.equalizer_body.proofs.stream.fill.Statement.{statement}
-use Rattle.equalizer_body.proofs.stream.fill.Tie as tie
+use Rattle.equalizer_stream.proofs.fill.Statement.{statement}
+use Rattle.equalizer_stream.proofs.fill.Tie as tie
 
 abbrev Inv-loop : tie.InvT-loop
 Inv-loop fd raw₀ want most have₀ raw have = (have ≤ most) × (length raw ≡ length raw₀)
