@@ -8,7 +8,8 @@
  *   marks) must not overlap any other slice of that call, or its behaviour is undefined: input and output may not be the same buffer.
  * Threads: there is no global state, and no memory is asked for. Calls on different records and slices may run at once; the calls of one record come
  *   one after the other, each with the record that the last one replied.
- * Delay: the symbol of sample i belongs to the sample (forward taps - 1) / 2 earlier, that of the centre tap; its mark belongs to sample i itself.
+ * Delay: the symbol of sample i belongs to the sample (forward taps - 1) / 2 earlier, that of the centre tap, where a blind start near the right level
+ *   settles; its mark belongs to sample i itself. README has what that means after a gap.
  * Level: the points of each constellation have mean power 1. Bring the input near that level. */
 #ifndef EQUALIZER_H
 #define EQUALIZER_H
