@@ -101,6 +101,15 @@ same x short
 none y y.part x.part
 rm x
 
+cp short x
+rows=$((rows + 1))
+row='equalizer --in x >> x'
+"$program" --in x >> x 2> said
+[ $? -eq 1 ] || wrong 'the status is not 1'
+says 'standard output is the input; nothing was written'
+same x short
+rm x
+
 mkfifo pipe
 run 1 --in short --out pipe
 says 'cannot write pipe: it is a named pipe, for which standard output serves; nothing was written'

@@ -1,5 +1,7 @@
 // A stream of samples, of any length, by calls of at most 4,096. What the calls give for what was read at once is written at once.
 ghost use Prim.Native.Nat.{_*_, _≤_, _<_};
+ghost use mathlib.Core.Path.{_≡_};
+ghost use Rattle.equalizer_stream.specs.Ends.{isWhole};
 ghost use Rattle.equalizer_stream.specs.Room.{Holds};
 use program::text;
 use types::EqMode;
@@ -64,7 +66,9 @@ pub struct Done {
 }
 
 impl Done {
-    pub fn is_whole(self) -> bool {
+    pub fn is_whole(self) -> bool
+        ensures { λ r. ⌜ r ≡ isWhole (self .ending) ⌝ }
+    {
         let e = self.ending;
         match e {
             Ending::Whole => true,

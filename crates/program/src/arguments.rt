@@ -1,7 +1,11 @@
 // Arguments: options `--name value`, `--name=value` and `--name`.
-ghost use Prim.Native.Nat.{_≤_};
-ghost use lib.ListN.{length};
+ghost use mathlib.Core.Path.{_≡_};
+ghost use mathlib.Core.Bool.{not, _&&_};
+ghost use lib.Dec.{eqb};
 ghost use Rattle.io.specs.Counts.{Counts};
+pub use program_text::words::NOT_THERE;
+pub use program_text::words::name_end;
+pub use program_text::words::place;
 
 // Where the text of a value stands: behind `from` bytes of argument `at`. Argument 0 names the program and is no value's.
 pub struct Value {
@@ -15,12 +19,16 @@ impl Value {
     // Standard input or output, which `-` names.
     pub const STANDARD: Value = Value { at: 0, from: 1 };
 
-    pub fn is_file(self) -> bool {
+    pub fn is_file(self) -> bool
+        ensures { λ r. ⌜ r ≡ not (eqb (self .at) 0) ⌝ }
+    {
         self.at != 0
     }
 
-    pub fn is_standard(self) -> bool {
-        self.at == 0 && self.from == 1
+    pub fn is_standard(self) -> bool
+        ensures { λ r. ⌜ r ≡ eqb (self .at) 0 && eqb (self .from) 1 ⌝ }
+    {
+        (self.at == 0) & (self.from == 1)
     }
 }
 
@@ -63,51 +71,4 @@ pub fn text_of(v: Value, buf: &mut [u8]) -> usize
 {
     let n = os::arg(v.at, buf);
     moved(buf, v.from, n)
-}
-
-// The bytes of an argument that name an option: all up to a `=`.
-pub fn name_end(t: &[u8]) -> usize
-    ensures { λ r. ⌜ r ≤ length (now (t .entry)) ⌝ }
-{
-    let mut i = 0;
-    while i < t.len() {
-        if t[i] == b'=' {
-            return i;
-        }
-        i += 1;
-    }
-    t.len()
-}
-
-pub const NOT_THERE: usize = 1000;
-
-// The place of a word in a list of words with a blank behind each.
-pub fn place(list: &[u8], word: &[u8]) -> usize {
-    let mut n = 0;
-    let mut j = 0;
-    let mut same = true;
-    let mut i = 0;
-    while i < list.len() {
-        if list[i] == b' ' {
-            if same && j == word.len() {
-                return n;
-            }
-            n = next(n);
-            j = 0;
-            same = true;
-        } else {
-            same = same && is_at(word, j, list[i]);
-            j = next(j);
-        }
-        i += 1;
-    }
-    NOT_THERE
-}
-
-fn next(n: usize) -> usize {
-    if n < NOT_THERE { n + 1 } else { n }
-}
-
-fn is_at(t: &[u8], at: usize, b: u8) -> bool {
-    if at < t.len() { t[at] == b } else { false }
 }

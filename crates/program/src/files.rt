@@ -213,9 +213,26 @@ fn not_made(program: &[u8], v: Value, input: Seen, error: i32) {
     );
 }
 
+// Whether the input is a file that standard output writes to.
+fn is_output(input: Seen) -> bool {
+    let kind = input.kind;
+    match kind {
+        Kind::File => is_same(program_look::look_fd(STDOUT_FILENO), input),
+        Kind::Missing | Kind::Folder | Kind::Fifo | Kind::Device | Kind::Other | Kind::Hidden =>
+            false,
+    }
+}
+
 // Makes the `.part` of a named output; standard output and no output are made as they are.
 pub fn made(program: &[u8], v: Value, input: Seen) -> Opened {
     if v.is_standard() {
+        if is_output(input) {
+            messages::plain(
+                program,
+                b"standard output is the input; nothing was written",
+            );
+            return Opened::NotMade;
+        }
         return Opened::Made(Output {
             name: v,
             fd: STDOUT_FILENO,

@@ -2,8 +2,9 @@
 pub mod arguments;
 pub mod files;
 pub mod messages;
-pub mod numbers;
-pub mod text;
+
+pub use program_text::numbers;
+pub use program_text::text;
 
 // The exit status of a program: all was served; something failed; it was asked for what it does not do.
 pub const SERVED: i32 = 0;
