@@ -55,11 +55,8 @@ fn run(at: usize, end: usize, serve: bool) -> i32
             program::USAGE
         }
         Asked::Run(o) => {
-            if o.help {
-                return said(serve, b"help");
-            }
-            if o.version {
-                return said(serve, b"version");
+            if o.help || o.version {
+                return said(serve, o.help);
             }
             if !is_ready(o) {
                 return program::USAGE;
@@ -69,17 +66,17 @@ fn run(at: usize, end: usize, serve: bool) -> i32
     }
 }
 
-// Help or version.
-fn said(serve: bool, what: &[u8]) -> i32
+// Help or the version, once it is its turn.
+fn said(serve: bool, help: bool) -> i32
     ensures { λ r. ⌜ ExitStatus r ⌝ }
 {
-    if serve {
-        if program::arguments::place(b"help ", what) == 0 {
-            return report::help();
-        }
-        return report::version();
+    if !serve {
+        return program::SERVED;
     }
-    program::SERVED
+    if help {
+        return report::help();
+    }
+    report::version()
 }
 
 // Samples are neither typed in nor shown on a terminal, and standard output is one output.
