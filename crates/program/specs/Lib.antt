@@ -1,1 +1,2 @@
+-- What every program promises of itself.
 pub mod Status

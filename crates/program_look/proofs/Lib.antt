@@ -1,1 +1,2 @@
+-- What the walks of this crate share.
 pub mod Cell
