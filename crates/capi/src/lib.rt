@@ -2,33 +2,20 @@
 use capi_numbers::EqRecord;
 use capi_numbers::EqReply;
 use capi_numbers::EqSettings;
-use capi_numbers::fresh_reply;
 use capi_numbers::known_record;
-use capi_numbers::known_settings;
-use capi_numbers::no_record;
 use capi_numbers::record_in;
-use capi_numbers::record_out;
 use capi_numbers::reply;
-use capi_numbers::served;
-use capi_numbers::settings_in;
 use capi_numbers::unknown;
 ghost use mathlib.Core.Path.{_≡_};
-ghost use Rattle.capi.specs.Raw.{filter, newRaw, resetRaw, setMuCmaRaw, setMuDdRaw, setFrequencyRaw, block, «eq_reference», «eq_equalize», PromisedRaw};
+ghost use Rattle.capi_state.specs.Raw.{filter, newRaw, resetRaw, setMuCmaRaw, setMuDdRaw, setFrequencyRaw};
+ghost use Rattle.capi.specs.Raw.{block, «eq_reference», «eq_equalize», PromisedRaw};
 
 // A new equalizer: weights and window are set. Refusals 1 to 8; the record is then all zeros.
 #[no_mangle]
 pub extern "C" fn eq_new(settings: EqSettings, weights: &mut [f32], window: &mut [f32]) -> EqReply
     ensures { λ r. ⌜ filter r (now (weights .exit)) (now (window .exit)) ≡ newRaw settings (now (weights .entry)) (now (window .entry)) ⌝ }
 {
-    if !known_settings(settings) {
-        return unknown(
-            no_record(),
-            record_verdict::both_even(weights.len(), window.len()),
-        );
-    }
-    let params = settings_in(settings);
-    let f = equalize_state::new(weights, window, params);
-    fresh_reply(f)
+    capi_state::new(settings, weights, window)
 }
 
 // Back to the start, with the settings and gains kept. Refusals 1 and 8.
@@ -36,12 +23,7 @@ pub extern "C" fn eq_new(settings: EqSettings, weights: &mut [f32], window: &mut
 pub extern "C" fn eq_reset(raw: EqRecord, weights: &mut [f32], window: &mut [f32]) -> EqReply
     ensures { λ r. ⌜ filter r (now (weights .exit)) (now (window .exit)) ≡ resetRaw raw (now (weights .entry)) (now (window .entry)) ⌝ }
 {
-    if !known_record(raw) {
-        return unknown(raw, record_verdict::both_even(weights.len(), window.len()));
-    }
-    let state = record_in(raw);
-    let e = equalize_state::reset(state, weights, window);
-    reply(e)
+    capi_state::reset(raw, weights, window)
 }
 
 // Another step size for Cma. Refusals 5, and 8 for an unknown number.
@@ -49,12 +31,7 @@ pub extern "C" fn eq_reset(raw: EqRecord, weights: &mut [f32], window: &mut [f32
 pub extern "C" fn eq_set_mu_cma(raw: EqRecord, mu: f32) -> EqReply
     ensures { λ r. ⌜ r ≡ setMuCmaRaw raw mu ⌝ }
 {
-    if !known_record(raw) {
-        return unknown(raw, true);
-    }
-    let state = record_in(raw);
-    let e = equalize_state::set_mu_cma(state, mu);
-    reply(e)
+    capi_state::set_mu_cma(raw, mu)
 }
 
 // Another step size for Decision. Refusals 6, and 8 for an unknown number.
@@ -62,12 +39,7 @@ pub extern "C" fn eq_set_mu_cma(raw: EqRecord, mu: f32) -> EqReply
 pub extern "C" fn eq_set_mu_dd(raw: EqRecord, mu: f32) -> EqReply
     ensures { λ r. ⌜ r ≡ setMuDdRaw raw mu ⌝ }
 {
-    if !known_record(raw) {
-        return unknown(raw, true);
-    }
-    let state = record_in(raw);
-    let e = equalize_state::set_mu_dd(state, mu);
-    reply(e)
+    capi_state::set_mu_dd(raw, mu)
 }
 
 // The tracker's frequency from outside. Refusal 8 for an unknown number.
@@ -75,12 +47,7 @@ pub extern "C" fn eq_set_mu_dd(raw: EqRecord, mu: f32) -> EqReply
 pub extern "C" fn eq_set_frequency(raw: EqRecord, freq: f32) -> EqReply
     ensures { λ r. ⌜ r ≡ setFrequencyRaw raw freq ⌝ }
 {
-    if !known_record(raw) {
-        return unknown(raw, true);
-    }
-    let state = record_in(raw);
-    let next = equalize_state::set_frequency(state, freq);
-    served(record_out(next))
+    capi_state::set_frequency(raw, freq)
 }
 
 // A block of samples: the quick path without feedback taps, the joint path with them. Same answer as `eq_reference`.

@@ -3,9 +3,9 @@ ghost use mathlib.Core.Path.{_≡_};
 ghost use mathlib.Core.Bool.{not, _&&_};
 ghost use lib.Dec.{eqb};
 ghost use Rattle.io.specs.Counts.{Counts};
-pub use program_text::words::NOT_THERE;
-pub use program_text::words::name_end;
-pub use program_text::words::place;
+pub use program_words::words::NOT_THERE;
+pub use program_words::words::name_end;
+pub use program_words::words::place;
 
 // Where the text of a value stands: behind `from` bytes of argument `at`. Argument 0 names the program and is no value's.
 pub struct Value {

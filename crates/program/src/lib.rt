@@ -3,8 +3,8 @@ pub mod arguments;
 pub mod files;
 pub mod messages;
 
-pub use program_text::numbers;
 pub use program_text::text;
+pub use program_words::numbers;
 
 // The exit status of a program: all was served; something failed; it was asked for what it does not do.
 pub const SERVED: i32 = 0;

@@ -3,7 +3,6 @@
 // No contract here says what the file system holds, since C's stat promises nothing of the record
 // that it fills.
 ghost use mathlib.Core.Path.{_≡_};
-ghost use mathlib.Core.Bool.{false};
 ghost use Prim.Native.Nat.{_<_};
 ghost use lib.ListN.{length};
 ghost use Rattle.libc.specs.Io.{Ended};
@@ -11,6 +10,7 @@ ghost use Rattle.program_look.specs.Path.{NoZero, Whole, Text};
 use libc::PATH_MAX;
 use libc::types::stat;
 use libc::types::timespec;
+use program_words::words::end_of;
 
 const LAST: usize = PATH_MAX - 1;
 
@@ -49,7 +49,7 @@ pub fn look(path: &[u8]) -> Seen
     if path.len() >= PATH_MAX {
         return unseen(Kind::Hidden);
     }
-    if has_zero(path) {
+    if end_of(path, 0, 0) < path.len() {
         return unseen(Kind::Hidden);
     }
     let bytes = ended(path);
@@ -168,17 +168,4 @@ fn ended(path: &[u8]) -> [u8; PATH_MAX]
     bytes[n] = 0;
     bytes[LAST] = 0;
     bytes
-}
-
-fn has_zero(text: &[u8]) -> bool
-    ensures { λ r. ⌜ (r ≡ false → NoZero (now (text .entry))) ⌝ }
-{
-    let mut i = 0;
-    while i < text.len() {
-        if text[i] == 0 {
-            return true;
-        }
-        i += 1;
-    }
-    false
 }

@@ -1,6 +1,5 @@
--- Tables: the rows, computed. Laying: text on a page. Texts: what a byte divides a list into. Wholes: digits in a text. Numerals: a number's digits.
+-- Tables: the rows, computed. Laying: text on a page. Entries: the text of a number in a list. Numerals: a number's digits.
 pub mod Tables
 pub mod Laying
-pub mod Texts
-pub mod Wholes
+pub mod Entries
 pub mod Numerals

@@ -1,9 +1,8 @@
 -- The known values, computed. Assumes nothing.
 use mathlib.Core.Path.{refl}
-use Rattle.program_text.specs.Pages.{laid, reached, numeralIn, numeral, divided, entryOf}
-use Rattle.program_text.specs.Words.{before, sameOf, placeFrom, placeOf}
-use Rattle.program_text.specs.Wholes.{digitCount, digitValue, wholeOf}
-use Rattle.program_text.specs.Rows.{LaidRows, NumeralRows, EntryRows, BeforeRows, PlaceRows, WholeRows}
+use Rattle.program_words.specs.Words.{divided}
+use Rattle.program_text.specs.Pages.{laid, reached, numeralIn, numeral, entryOf}
+use Rattle.program_text.specs.Rows.{LaidRows, NumeralRows, EntryRows}
 
 pub laid-rows : LaidRows
 unfolding laid reached
@@ -16,15 +15,3 @@ numeral-rows = (refl, refl, refl, refl, refl)
 pub entry-rows : EntryRows
 unfolding divided entryOf
 entry-rows = (refl, refl, refl, refl, refl, refl)
-
-pub before-rows : BeforeRows
-unfolding before
-before-rows = (refl, refl, refl, refl)
-
-pub place-rows : PlaceRows
-unfolding divided sameOf placeFrom placeOf
-place-rows = (refl, refl, refl, refl, refl, refl, refl, refl)
-
-pub whole-rows : WholeRows
-unfolding digitCount digitValue wholeOf
-whole-rows = (refl, refl, refl, refl, refl, refl, refl, refl, refl, refl, refl, refl, refl)

@@ -1,5 +1,3 @@
--- Text. Pages: text laid on a page, a number as text. Words: words in a list. Wholes: whole numbers in a text. Rows: known values.
+-- Text on its way out. Pages: text laid on a page, a number as text. Rows: known values.
 pub mod Pages
-pub mod Words
-pub mod Wholes
 pub mod Rows

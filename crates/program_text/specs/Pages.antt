@@ -3,8 +3,9 @@ use Prim.Native.Nat.{ℕ, zero, suc, _+_, _/_, _%_, min, max}
 use mathlib.Core.Path.{_≡_}
 use mathlib.Core.Bool.{cond}
 use mathlib.Core.List.{List, [], _∷_, _++_}
-use lib.Dec.{ltb, eqb}
+use lib.Dec.{ltb}
 use lib.ListN.{length, getD}
+use Rattle.program_words.specs.Words.{divided}
 
 -- The page with a text laid over it from a place on, as far as the page reaches.
 unfoldable pub laid : List ℕ → ℕ → List ℕ → List ℕ
@@ -30,16 +31,6 @@ numeralIn (suc k) n = cond (ltb n 10) ((48 + n) ∷ []) (numeralIn k (n / 10) ++
 unfoldable pub numeral : ℕ → List ℕ
 unfolding numeralIn
 numeral n = numeralIn 20 n
-
--- A byte in front of the first of some texts; `divided` always has a first.
-abbrev pub onto : ℕ → List (List ℕ) → List (List ℕ)
-onto b [] = []
-onto b (t ∷ ts) = (b ∷ t) ∷ ts
-
--- The texts that a byte divides a list into: always one more than there are such bytes.
-unfoldable pub divided : ℕ → List ℕ → List (List ℕ)
-divided d [] = [] ∷ []
-divided d (b ∷ l) = cond (eqb b d) ([] ∷ divided d l) (onto b (divided d l))
 
 -- The text of a number among those that line ends divide a list into, counted from 0; empty where there are not so many.
 unfoldable pub entryOf : List ℕ → ℕ → List ℕ

@@ -1,4 +1,2 @@
-// Text: bytes laid on a page, numbers in a text, words in a list. What is not promised: the digits of a float, the value of a real number, what is sent.
-pub mod numbers;
+// Text on its way out: bytes, numbers and entries of lists laid on a page. What is not promised: the digits of a float, what is sent.
 pub mod text;
-pub mod words;

@@ -1,7 +1,7 @@
 // Text on its way out: a page, and how many of its bytes are used. What finds no room is left out.
 ghost use mathlib.Core.List.{[], _∷_};
 ghost use Rattle.program_text.specs.Pages.{LaidAs, numeral, entryOf};
-use crate::words::end_of;
+use program_words::words::end_of;
 
 fn byte(p: &mut [u8], at: usize, b: u8) -> usize
     ensures { λ r. ⌜ LaidAs (now (p .entry)) at (b ∷ []) (now (p .exit)) r ⌝ }

@@ -1,7 +1,9 @@
 -- `program_look::look` meets its contract: where C is asked, the path is one that it can be handed whole.
 -- Assumes nothing.
 use native.Mathlib.Omega.{arith}
+use denote.Ref.{now}
 use borrow.Author.Needs.{needs}
+use Rattle.program_words.proofs.Texts.{before-none}
 use Rattle.program_look.proofs.look.Statement.{statement}
 use Rattle.program_look.proofs.look.Tie as tie
 
@@ -11,8 +13,8 @@ unseen-requires c κs = search needs
 returns : tie.Need-returns
 returns c = search needs
 
-has-zero-requires : tie.Need-has-zero-requires
-has-zero-requires c κs = search needs
+end-of-requires : tie.Need-end-of-requires
+end-of-requires c κs = search needs
 
 unseen-requires-2 : tie.Need-unseen-requires-2
 unseen-requires-2 c κs = search needs
@@ -35,7 +37,7 @@ seen-of-requires c κs = search needs
 returns-3 : tie.Need-returns-3
 returns-3 c bad =
     let at-if2 = c .before .before .before .before .before in
-    absurd (bad (omega arith, at-if2 .before .has-zero .ensures (at-if2 .if2 .left)))
+    absurd (bad (omega arith, before-none 0 (now (at-if2 .before .before .before .before .args .path)) (omega (arith, at-if2 .before .end-of .ensures, at-if2 .if2 .left))))
 
 pub look-spec : {M : Type 1} → statement M
-look-spec = tie.close (tie.spec unseen-requires returns has-zero-requires unseen-requires-2 returns-2 ended-requires blank-requires fill-requires seen-of-requires returns-3)
+look-spec = tie.close (tie.spec unseen-requires returns end-of-requires unseen-requires-2 returns-2 ended-requires blank-requires fill-requires seen-of-requires returns-3)

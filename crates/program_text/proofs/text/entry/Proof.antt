@@ -5,9 +5,11 @@ use mathlib.Core.Path.{_≡_, refl, sym, _∙_}
 use mathlib.Core.List.{[]}
 use native.Mathlib.Omega.{arith}
 use lib.ListN.{length, getD, drop}
-use Rattle.program_text.specs.Pages.{divided, entryOf}
+use Rattle.program_words.specs.Words.{divided}
+use Rattle.program_words.proofs.Texts.{end-most}
+use Rattle.program_text.specs.Pages.{entryOf}
 use Rattle.program_text.proofs.Laying.{laid-empty, reached-empty, laid-same, reached-same}
-use Rattle.program_text.proofs.Texts.{end-most, entry-start, entry-here, entry-next, entry-last, entry-none}
+use Rattle.program_text.proofs.Entries.{entry-start, entry-here, entry-next, entry-last, entry-none}
 use Rattle.program_text.proofs.text.entry.Statement.{statement}
 use Rattle.program_text.proofs.text.entry.Tie as tie
 
