@@ -16,8 +16,15 @@ CRATES = $(shell find crates crates.txt -name '*.rt' -o -name '*.antt' -o -name 
 
 all: build/equalizer build/libequalizer.a build/libequalizer.so build/equalizer.pc
 
-build/libequalizer.a: $(CRATES)
+# two rt at once would spoil each other's target/, so that make does one thing after another; rt itself proves two crates at a time
+.NOTPARALLEL:
+
+build/proved: $(CRATES)
 	@mkdir -p build
+	rt check capi equalizer_status > build/proved.log || { tail -n 20 build/proved.log; false; }
+	touch $@
+
+build/libequalizer.a: build/proved
 	rt staticlib capi > build/capi.log || { tail -n 20 build/capi.log; false; }
 	cp target/staticlib/libcapi.a $@
 
@@ -25,8 +32,7 @@ build/libequalizer.so: build/libequalizer.a
 	$(CC) -shared -Wl,-soname,libequalizer.so.0 -Wl,--whole-archive $< -Wl,--no-whole-archive -o $@
 
 # rt says which archive of the toolchain goes beside a crate that calls the system
-build/equalizer: program/main.c $(CRATES)
-	@mkdir -p build
+build/equalizer: program/main.c build/proved
 	rt staticlib equalizer_status > build/equalizer_status.log || { tail -n 20 build/equalizer_status.log; false; }
 	$(CC) $(CFLAGS) program/main.c target/staticlib/libequalizer_status.a "$$(sed -n 's/^rt: .*; link \(.*\) beside it$$/\1/p' build/equalizer_status.log)" -o $@
 
