@@ -21,11 +21,12 @@ all: build/equalizer build/libequalizer.a build/libequalizer.so build/equalizer.
 
 build/proved: $(CRATES)
 	@mkdir -p build
-	rt check capi equalizer_status > build/proved.log || { tail -n 20 build/proved.log; false; }
+	@echo 'each crate is proved before it is compiled: the first time takes some minutes'
+	rt check capi equalizer_status > build/proved.log 2>&1 || { tail -n 20 build/proved.log; false; }
 	touch $@
 
 build/libequalizer.a: build/proved
-	rt staticlib capi > build/capi.log || { tail -n 20 build/capi.log; false; }
+	rt staticlib capi > build/capi.log 2>&1 || { tail -n 20 build/capi.log; false; }
 	cp target/staticlib/libcapi.a $@
 
 build/libequalizer.so: build/libequalizer.a
@@ -33,7 +34,7 @@ build/libequalizer.so: build/libequalizer.a
 
 # rt says which archive of the toolchain goes beside a crate that calls the system
 build/equalizer: program/main.c build/proved
-	rt staticlib equalizer_status > build/equalizer_status.log || { tail -n 20 build/equalizer_status.log; false; }
+	rt staticlib equalizer_status > build/equalizer_status.log 2>&1 || { tail -n 20 build/equalizer_status.log; false; }
 	$(CC) $(CFLAGS) program/main.c target/staticlib/libequalizer_status.a "$$(sed -n 's/^rt: .*; link \(.*\) beside it$$/\1/p' build/equalizer_status.log)" -o $@
 
 build/equalizer.pc: program/equalizer.pc.in Makefile
