@@ -16,7 +16,7 @@ CRATES = $(shell find crates crates.txt -name '*.rt' -o -name '*.antt' -o -name 
 
 all: build/equalizer build/libequalizer.a build/libequalizer.so build/equalizer.pc
 
-# two rt at once would spoil each other's target/, so that make does one thing after another; rt itself proves two crates at a time
+# two rt at once can spoil each other's target/, so that make does one thing after another; rt itself proves two crates at a time
 .NOTPARALLEL:
 
 build/proved: $(CRATES)

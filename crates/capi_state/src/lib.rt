@@ -1,4 +1,4 @@
-// The exported calls that take no samples, from the record as numbers.
+// The exported calls that take no samples, from the record as numbers; `capi` exports them and says which numbers each refuses with.
 use capi_numbers::EqRecord;
 use capi_numbers::EqReply;
 use capi_numbers::EqSettings;
@@ -15,7 +15,7 @@ use capi_numbers::unknown;
 ghost use mathlib.Core.Path.{_≡_};
 ghost use Rattle.capi_state.specs.Raw.{filter, newRaw, resetRaw, setMuCmaRaw, setMuDdRaw, setFrequencyRaw};
 
-// A new equalizer: weights and window are set. Refusals 1 to 8; the record is then all zeros.
+// A new equalizer.
 pub fn new(settings: EqSettings, weights: &mut [f32], window: &mut [f32]) -> EqReply
     ensures { λ r. ⌜ filter r (now (weights .exit)) (now (window .exit)) ≡ newRaw settings (now (weights .entry)) (now (window .entry)) ⌝ }
 {
@@ -30,7 +30,7 @@ pub fn new(settings: EqSettings, weights: &mut [f32], window: &mut [f32]) -> EqR
     fresh_reply(f)
 }
 
-// Back to the start, with the settings and gains kept. Refusals 1 and 8.
+// Back to the start.
 pub fn reset(raw: EqRecord, weights: &mut [f32], window: &mut [f32]) -> EqReply
     ensures { λ r. ⌜ filter r (now (weights .exit)) (now (window .exit)) ≡ resetRaw raw (now (weights .entry)) (now (window .entry)) ⌝ }
 {
@@ -42,7 +42,7 @@ pub fn reset(raw: EqRecord, weights: &mut [f32], window: &mut [f32]) -> EqReply
     reply(e)
 }
 
-// Another step size for Cma. Refusals 5, and 8 for an unknown number.
+// Another step size for Cma.
 pub fn set_mu_cma(raw: EqRecord, mu: f32) -> EqReply
     ensures { λ r. ⌜ r ≡ setMuCmaRaw raw mu ⌝ }
 {
@@ -54,7 +54,7 @@ pub fn set_mu_cma(raw: EqRecord, mu: f32) -> EqReply
     reply(e)
 }
 
-// Another step size for Decision. Refusals 6, and 8 for an unknown number.
+// Another step size for Decision.
 pub fn set_mu_dd(raw: EqRecord, mu: f32) -> EqReply
     ensures { λ r. ⌜ r ≡ setMuDdRaw raw mu ⌝ }
 {
@@ -66,7 +66,7 @@ pub fn set_mu_dd(raw: EqRecord, mu: f32) -> EqReply
     reply(e)
 }
 
-// The tracker's frequency from outside. Refusal 8 for an unknown number.
+// The tracker's frequency from outside.
 pub fn set_frequency(raw: EqRecord, freq: f32) -> EqReply
     ensures { λ r. ⌜ r ≡ setFrequencyRaw raw freq ⌝ }
 {
