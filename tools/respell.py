@@ -62,7 +62,7 @@ def table(root):
                 fields.add(m[1])
                 at[m[1]].add(p)
             m = DECLARED.match(l)
-            if m and not l.startswith(("use ", "pub use", "module", "mod ", "pub mod", "infix")):
+            if m and not l.startswith(("use ", "pub use", "module", "mod ", "pub mod ", "infix")):
                 # a walk declares a proof for each goal under the goal's name: those names are Rattle's
                 if walk and re.search(r":\s*tie\.|: \{M : Type 1\} → statement", l):
                     continue

@@ -8,7 +8,7 @@ use borrow.Author.Tests.{eqb-true}
 use lib.Ieee.{is_nan, of_bits, of_fields, lt, eq, le}
 use Rattle.definition.specs.Refusals.{first_of}
 use Rattle.types_numbers.specs.Numbers.{known, case_of, mode_number, modes, known_mode, constellation_number, constellations}
-use Rattle.types_numbers.proofs.Numbered.{mode-known, mode-back, constellation_known, constellation_back}
+use Rattle.types_numbers.proofs.Numbered.{mode_known, mode_back, constellation_known, constellation_back}
 use Rattle.types.specs.declared.EqMode.TheVariants.{Decision}
 use Rattle.types.specs.declared.EqConstellation.TheVariants.{Qam64}
 use Rattle.types.specs.declared.EqualizeState.{EqualizeState}
@@ -37,11 +37,11 @@ kept r h =
 -- a record out and in again, whose numbers are known: what a call replies can be handed to the next
 pub out_known : (s : EqualizeState) → known_record (record_out s) ≡ true
 unfolding known_settings known_record settings_out record_out
-out_known s = and_true _ _ (constellation_known s.params.constellation) (mode-known s.mode)
+out_known s = and_true _ _ (constellation_known s.params.constellation) (mode_known s.mode)
 
 pub out_in : (s : EqualizeState) → record_in (record_out s) ≡ s
 unfolding settings_in record_in settings_out record_out
-out_in s = rw (constellation_back s.params.constellation, mode-back s.mode)
+out_in s = rw (constellation_back s.params.constellation, mode_back s.mode)
 
 -- an unknown number: 8, and 1 before it
 pub unknown_even : unknown true ≡ 8 ∷ []

@@ -9,6 +9,6 @@ pub mode_none : (n : ℕ) → n ≡ 0 → Decision ≡ start_mode n
 unfolding start_mode
 mode_none n e = rw (eq-eqb n 0 e)
 
-pub mode-some : (n : ℕ) → (n ≡ 0 → ⊥) → Cma ≡ start_mode n
+pub mode_some : (n : ℕ) → (n ≡ 0 → ⊥) → Cma ≡ start_mode n
 unfolding start_mode
-mode-some n e = rw (ne_eqb n 0 e)
+mode_some n e = rw (ne_eqb n 0 e)

@@ -10,13 +10,13 @@ use Rattle.types.specs.declared.Error.{Error}
 use Rattle.types.specs.declared.Error.TheVariants.{Odd, Feedback, Taps, Window, MuCma, MuDd, Bandwidth, Record, Output, Marks}
 use Rattle.types_numbers.specs.Numbers.{error_number, mode_number, known_mode, mode_of, constellation_number, known_constellation, constellation_of}
 
-pub mode-known : (m : EqMode) → known_mode (mode_number m) ≡ true
-mode-known Cma = refl
-mode-known Decision = refl
+pub mode_known : (m : EqMode) → known_mode (mode_number m) ≡ true
+mode_known Cma = refl
+mode_known Decision = refl
 
-pub mode-back : (m : EqMode) → mode_of (mode_number m) ≡ m
-mode-back Cma = refl
-mode-back Decision = refl
+pub mode_back : (m : EqMode) → mode_of (mode_number m) ≡ m
+mode_back Cma = refl
+mode_back Decision = refl
 
 pub constellation_known : (k : EqConstellation) → known_constellation (constellation_number k) ≡ true
 constellation_known Bpsk = refl
