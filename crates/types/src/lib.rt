@@ -1,5 +1,7 @@
 // The types of the equalizer, with the Rust's names, its constants and the readers of the record. What each operation returns and leaves is
 // defined in the crate definition, from document 01.
+#![tactic(auto)]
+
 ghost use Rattle.std.specs.Prelude.{◌≡◌, ◌-◌, ◌/◌, length};
 ghost use Rattle.types.specs.Bits.{f32 as f32Of, f64 as f64Of};
 ghost use Rattle.types.specs.Start.{start_mode, start_state};
@@ -149,6 +151,7 @@ impl EqParams {
 }
 
 // The mode at the start: Decision where cma_symbols is 0.
+#[tactic(auto, using(crate::proofs::Starts::mode_none, crate::proofs::Starts::mode_some))]
 fn start_mode(cma_symbols: u32) -> EqMode
     ensures { result ≡ start_mode cma_symbols }
 {
@@ -167,6 +170,7 @@ impl EqualizeState {
     pub const NLMS_EPS: f32 = 0.000001;
 
     // The record at the start: count 0, mse 1, phase and frequency 0.
+    #[tactic(auto, unfolding(crate::specs::Start::start_state))]
     pub fn fresh(params: EqParams, kp: f32, ki: f32) -> EqualizeState
         ensures { result ≡ start_state params kp ki }
     {
