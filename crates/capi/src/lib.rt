@@ -1,4 +1,6 @@
 // The equalizer for C and Rust: the record as numbers, by value. Slices cross as pointer and length.
+#![tactic(auto)]
+
 ghost use Rattle.std.specs.Prelude.{◌≡◌};
 ghost use Rattle.capi_state.specs.Raw.{filter, new_raw, reset_raw, set_mu_cma_raw, set_mu_dd_raw, set_frequency_raw};
 ghost use Rattle.capi.specs.Raw.{block, eq_reference, eq_equalize, PromisedRaw};

@@ -1,4 +1,6 @@
 // The record of the exported calls, as numbers, and their reply. Numbers are checked on the way in.
+#![tactic(auto)]
+
 ghost use Rattle.std.specs.Prelude.{◌≡◌, get_or};
 ghost use Rattle.definition.specs.Refusals.{reply_of, fresh_reply, error_values};
 ghost use Rattle.capi_numbers.specs.RawRecord.{known_settings, known_record, settings_in, record_in, settings_out, record_out, no_record, replied, unknown as unknownDef, fresh_out};

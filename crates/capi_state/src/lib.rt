@@ -1,4 +1,6 @@
 // The exported calls that take no samples, from the record as numbers; `capi` exports them and says which numbers each refuses with.
+#![tactic(auto)]
+
 ghost use Rattle.std.specs.Prelude.{◌≡◌};
 ghost use Rattle.capi_state.specs.Raw.{filter, new_raw, reset_raw, set_mu_cma_raw, set_mu_dd_raw, set_frequency_raw};
 

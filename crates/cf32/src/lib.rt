@@ -1,4 +1,6 @@
 // Samples and the bytes of a cf32 file: two f32 to a sample, real part first, each with its lowest byte first.
+#![tactic(auto)]
+
 ghost use Rattle.std.specs.Prelude.{◌≡◌, ◌+◌, ◌*◌, ◌/◌, ◌≤◌, min, length};
 ghost use Rattle.cf32.specs.Bytes.{word_of, word_at, float_of, pattern_of, read_into, write_over};
 

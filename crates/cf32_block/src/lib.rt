@@ -1,4 +1,6 @@
 // One call of the equalizer from the bytes of a cf32 file to bytes.
+#![tactic(auto)]
+
 ghost use Rattle.std.specs.Prelude.{◌≡◌};
 ghost use Rattle.definition.specs.Calls.{equalize_def};
 ghost use Rattle.definition.specs.Packed.{equalizer, answered};

@@ -1,4 +1,6 @@
 // The constellations: the decision of each, and Godard's R2.
+#![tactic(auto)]
+
 ghost use Rattle.std.specs.Prelude.{◌≡◌};
 ghost use Rattle.definition.specs.Points.{side as sideDef, decide as decideDef, radius};
 

@@ -1,4 +1,6 @@
 // The square constellations: levels, the nearest level of a part, the nearest point.
+#![tactic(auto)]
+
 ghost use Rattle.std.specs.Prelude.{◌≡◌, cond};
 ghost use Rattle.types.specs.declared.Qam.TheVariants as qam;
 ghost use Rattle.definition.specs.Points.{held_to, level_of, level_at, qam_point};

@@ -1,4 +1,6 @@
 // One entry of the cosine table. `tables::COS_BITS` is stored whole, 16 KB, wherever it is borrowed: that is for code which reads many entries.
+#![tactic(auto)]
+
 ghost use Rattle.std.specs.Prelude.{◌≡◌, ◌<◌};
 ghost use Rattle.tables.specs.Table.{cos_at};
 

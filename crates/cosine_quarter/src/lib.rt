@@ -1,5 +1,7 @@
 // The first quarter of the cosine table, entries 0 to 1023, as their bits, written by oracle/table/gen_quarter.py. Each part is a match on the index, which
 // the compiler turns into a read of a table in memory.
+#![tactic(auto)]
+
 ghost use Rattle.std.specs.Prelude.{◌≡◌, ◌+◌, ◌<◌, get_or};
 ghost use Rattle.tables.specs.Table.{cos_bits};
 

@@ -1,4 +1,6 @@
 // The pieces of the carrier loop: gains, turns, the 8-PSK decision and the integrator.
+#![tactic(auto)]
+
 ghost use Rattle.std.specs.Prelude.{◌≡◌, cond, ◌≤◌};
 ghost use Rattle.std.specs.Float.Ieee.{lt, neg};
 ghost use Rattle.types.specs.Bits.{zero32};

@@ -1,4 +1,6 @@
 // The phase step of the carrier loop, from the bits of the frequency.
+#![tactic(auto)]
+
 ghost use Rattle.std.specs.Prelude.{◌≡◌, ◌*◌, ◌%◌, ◌^◌, ◌<◌, ◌≤◌};
 ghost use Rattle.definition.specs.Phase.{phase_step};
 ghost use Rattle.costas_step.specs.HalfUp.{half_up};

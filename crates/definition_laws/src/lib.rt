@@ -1,1 +1,2 @@
 // Laws about the definition, which other crates' proofs cite. It has no code.
+#![tactic(auto)]

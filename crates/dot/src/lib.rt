@@ -1,4 +1,6 @@
 // The complex filter sum, sum of x[i] w[i] without conjugate, over interleaved slices: eight partial sums for each component, f32 without FMA.
+#![tactic(auto)]
+
 ghost use Rattle.std.specs.Prelude.{◌≡◌, ◌*◌, ◌+◌, ◌<◌, ◌≤◌, length, get_or};
 ghost use Rattle.std.specs.Float.{nan};
 ghost use Rattle.definition.specs.Slices.{prod_re, prod_im, sum8, tree, filter_sum, dot_complex};

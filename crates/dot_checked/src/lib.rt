@@ -1,4 +1,6 @@
 // The complex filter sum of two slices of one length, or why there is none.
+#![tactic(auto)]
+
 ghost use Rattle.std.specs.Prelude.{◌≡◌};
 ghost use Rattle.dot_checked.specs.Dot.{dot_def};
 

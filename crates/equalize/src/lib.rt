@@ -1,5 +1,7 @@
 // A block of samples through the adaptive equalizer. Samples are interleaved f32, real part first; weights and window are lent, forward taps, then
 // feedback taps, newest first in each.
+#![tactic(auto)]
+
 use types::{EqualizeState, Equalized, Outcome};
 
 pub mod reference;

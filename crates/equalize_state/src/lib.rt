@@ -1,5 +1,7 @@
 // The calls on an equalizer that take no samples: it is made, set back to the start, and its settings are changed. Weights and window are lent, forward
 // taps, then feedback taps, newest first in each.
+#![tactic(auto)]
+
 ghost use Rattle.std.specs.Prelude.{◌≡◌, ◌*◌, ◌/◌, ◌≤◌, length};
 ghost use Rattle.definition.specs.Slices.{zeros, start_weights};
 ghost use Rattle.definition.specs.Packed.{equalizer, made, reset_to, settled};

@@ -1,4 +1,6 @@
 // Equalizes recordings of complex samples. All that matters is in the crate `equalize`: the program reads, calls and writes.
+#![tactic(auto)]
+
 mod options;
 mod outputs;
 mod report;

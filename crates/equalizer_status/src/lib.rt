@@ -1,4 +1,6 @@
 // The program for a `main` in C, which hands on its exit status.
+#![tactic(auto)]
+
 ghost use Rattle.program.specs.Status.{ExitStatus};
 
 #[unsafe(no_mangle)]

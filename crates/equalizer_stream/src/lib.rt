@@ -1,4 +1,6 @@
 // A stream of samples, of any length, by calls of at most 4,096. What the calls give for what was read at once is written at once.
+#![tactic(auto)]
+
 ghost use Rattle.std.specs.Prelude.{◌*◌, ◌≤◌, ◌<◌, ◌≡◌};
 ghost use Rattle.equalizer_stream.specs.Ends.{is_whole};
 ghost use Rattle.equalizer_stream.specs.Room.{Holds};

@@ -1,4 +1,6 @@
 // The weights' step.
+#![tactic(auto)]
+
 ghost use Rattle.std.specs.Prelude.{◌≡◌, ◌+◌, ◌<◌, ◌≤◌, length};
 ghost use Rattle.lanes_adapt.specs.Steps.{kept_of, uneven, step_re, step_im, lane_re, lane_im, any_of, clear_of, Replaced, broken_at, broken_in, clear_in};
 ghost use Rattle.lanes_adapt.specs.Settled.{start_in, Settled};

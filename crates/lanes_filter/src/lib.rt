@@ -1,4 +1,6 @@
 // The filter sum over split arrays, in blocks of eight lanes.
+#![tactic(auto)]
+
 ghost use Rattle.std.specs.Prelude.{◌≡◌, ◌+◌, ◌<◌, ◌≤◌, ◌%◌, length};
 ghost use Rattle.lanes_filter.specs.Split.{split_re, split_im, Onto, sum_two};
 ghost use Rattle.dot.specs.Added.{Added};

@@ -1,4 +1,6 @@
 // The caller's slices into split arrays and back.
+#![tactic(auto)]
+
 ghost use Rattle.std.specs.Prelude.{◌≡◌, ◌+◌, ◌*◌, ◌≤◌, length};
 ghost use Rattle.lanes_load.specs.Load.{limit_at, Joined, Loaded, Moved};
 ghost use Rattle.lanes.specs.Holds.{Limits};

@@ -1,4 +1,6 @@
 // What a run needs before its first sample.
+#![tactic(auto)]
+
 ghost use Rattle.std.specs.Prelude.{◌≡◌, ◌+◌, ◌-◌, ◌≤◌, ◌%◌, min, length, get_or};
 ghost use Rattle.std.specs.Float.{nan};
 ghost use Rattle.definition.specs.Sample.{step_size};

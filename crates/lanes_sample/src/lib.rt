@@ -1,4 +1,6 @@
 // One sample on the arrays.
+#![tactic(auto)]
+
 ghost use Rattle.std.specs.Prelude.{◌≡◌, ◌+◌, ◌<◌, ◌≤◌, ◌%◌, set};
 ghost use Rattle.definition.specs.Floats.{norm};
 ghost use Rattle.lanes.specs.Arrays.{arrays};

@@ -1,4 +1,6 @@
 // Cosine and sine of a phase, by the table and the straight line between two entries, in f32 without FMA.
+#![tactic(auto)]
+
 ghost use Rattle.std.specs.Prelude.{◌≡◌, ◌<◌, ◌+◌, ◌%◌};
 ghost use Rattle.tables.specs.Table.{cos_bits};
 ghost use Rattle.definition.specs.Floats.{◌+f◌, ◌-f◌, ◌*f◌};

@@ -1,4 +1,6 @@
 // The plain path, step by step over the caller's slices: n taps in all, f of them forward, m of them feedback.
+#![tactic(auto)]
+
 use steps::{Sampled, Stage};
 use types::{C32, EqualizeState, Mark};
 

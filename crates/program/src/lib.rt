@@ -1,4 +1,6 @@
 // What a program needs beside its own work: arguments and the numbers in them, text on its way out, messages, files, an exit status.
+#![tactic(auto)]
+
 pub mod arguments;
 pub mod files;
 pub mod messages;

@@ -2,6 +2,8 @@
 //
 // No contract here says what the file system holds, since C's stat promises nothing of the record
 // that it fills.
+#![tactic(auto)]
+
 ghost use Rattle.std.specs.Prelude.{◌≡◌, ◌<◌, length};
 ghost use Rattle.libc.specs.Io.{Ended};
 ghost use Rattle.program_look.specs.Path.{NoZero, Whole, Text};

@@ -1,2 +1,4 @@
 // Text on its way out: bytes, numbers and entries of lists laid on a page. What is not promised: the digits of a float, what is sent.
+#![tactic(auto)]
+
 pub mod text;

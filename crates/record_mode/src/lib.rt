@@ -1,4 +1,6 @@
 // The switch from Cma to Decision.
+#![tactic(auto)]
+
 ghost use Rattle.std.specs.Prelude.{◌≡◌, true};
 ghost use Rattle.definition.specs.Sample.{advance as advanceDef};
 ghost use Rattle.definition.specs.Rules.{rule_r4};

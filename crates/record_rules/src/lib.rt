@@ -1,4 +1,6 @@
 // The record check: rules R1 to R4.
+#![tactic(auto)]
+
 ghost use Rattle.std.specs.Prelude.{◌≡◌, ◌-◌};
 ghost use Rattle.std.specs.Float.Ieee.Scale.{finite};
 ghost use Rattle.definition.specs.Floats.{abs};

@@ -1,4 +1,6 @@
 // Weights and window at the start.
+#![tactic(auto)]
+
 ghost use Rattle.std.specs.Prelude.{◌≡◌, ◌*◌, ◌/◌, ◌≤◌, length};
 ghost use Rattle.definition.specs.Slices.{zeros, start_weights};
 

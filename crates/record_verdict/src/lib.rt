@@ -1,4 +1,6 @@
 // Whether a call is served: the first test that fails says why not.
+#![tactic(auto)]
+
 ghost use Rattle.std.specs.Prelude.{◌≡◌, ◌&&◌, ◌++◌, length};
 ghost use Rattle.definition.specs.Refusals.{first_of};
 ghost use Rattle.definition.specs.Packed.{equalizer};

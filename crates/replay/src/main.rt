@@ -1,6 +1,8 @@
 // Replays the answers of the original Rust. The program is run in a folder with the files of data/, one for
 // each leaf, one for whole calls and one for the other operations; a line holds the patterns of the inputs and
 // of what the Rust gave for them. Each is worked out anew and compared.
+#![tactic(auto)]
+
 mod calls;
 mod leaves;
 mod lines;

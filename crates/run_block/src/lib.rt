@@ -1,4 +1,6 @@
 // The quick path and the joint path as one code: a block of samples in runs of 64, the caller's slices into the arrays, run after run, and back.
+#![tactic(auto)]
+
 ghost use Rattle.std.specs.Prelude.{◌≡◌, true, ◌+◌, ◌-◌, ◌*◌, ◌/◌, ◌%◌, ◌<◌, ◌≤◌, length};
 ghost use Rattle.tables.specs.Table.{cos_bits};
 ghost use Rattle.definition.specs.Slices.{samples_of};

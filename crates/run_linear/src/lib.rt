@@ -1,4 +1,6 @@
 // The quick path and the joint path, called: the cosine table is borrowed, and the taps are counted.
+#![tactic(auto)]
+
 ghost use Rattle.definition.specs.Slices.{samples_of};
 ghost use Rattle.definition.specs.Packed.{equalizer, Ran, ServedBlock};
 ghost use Rattle.definition.specs.Run.{run_def};

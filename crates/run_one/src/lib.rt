@@ -1,4 +1,6 @@
 // One run of a block: its samples put in and what is made ahead of them, the samples, and the windows back to their place.
+#![tactic(auto)]
+
 ghost use Rattle.std.specs.Prelude.{◌≡◌, true, ◌+◌, ◌-◌, ◌*◌, ◌/◌, ◌≤◌, length};
 ghost use Rattle.tables.specs.Table.{cos_bits};
 ghost use Rattle.definition.specs.Rules.{rule_r4};

@@ -1,4 +1,6 @@
 // The samples of a run on the arrays: w the weights, x the window, q its squares; r real, i imaginary. Feedback lanes from 72 on, their window from 144 on.
+#![tactic(auto)]
+
 ghost use Rattle.std.specs.Prelude.{◌≡◌, true, ◌+◌, ◌-◌, ◌*◌, ◌<◌, ◌≤◌, length};
 ghost use Rattle.tables.specs.Table.{cos_bits};
 ghost use Rattle.definition.specs.Rules.{rule_r4};

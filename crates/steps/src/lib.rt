@@ -1,4 +1,6 @@
 // One sample after its filter sum: tracker, decision, error, update. Where ways meet, the changed numbers are handed back and not the record.
+#![tactic(auto)]
+
 ghost use Rattle.std.specs.Prelude.{◌≡◌, ◌+◌, ◌%◌, ◌^◌, if◌then◌else◌};
 ghost use Rattle.tables.specs.Table.{cos_bits};
 ghost use Rattle.types.specs.Bits.{one32};

@@ -1,4 +1,6 @@
 // The cosine table, in the place of the Rust's COS_F32.
+#![tactic(auto)]
+
 ghost use Rattle.std.specs.Prelude.{◌≡◌, ◌<◌};
 ghost use Rattle.tables.specs.Table.{cos_at, cos_bits};
 

@@ -1,4 +1,6 @@
 // The numbers of refusals, marks, modes and constellations: from a case to its number and back.
+#![tactic(auto)]
+
 ghost use Rattle.std.specs.Prelude.{◌≡◌};
 ghost use Rattle.types_numbers.specs.Numbers.{error_number, mode_number, constellation_number, mark_number, known_constellation, constellation_of, known_mode, mode_of, known_mark, mark_of};
 
