@@ -1,4 +1,4 @@
--- `record_rules::same_bits_lem` compares bits: two NaNs are the same, a NaN and a number are not, and two numbers are by their bits. Assumes nothing.
+-- `record_rules::same_bits` compares bits: two NaNs are the same, a NaN and a number are not, and two numbers are by their bits. Assumes nothing.
 use borrow.Author.Rules.{rules}
 use Rattle.record_rules.proofs.Bits.{bits_nan, bits_other, no_nan}
 use Rattle.definition.specs.Rules.{same_bits}
