@@ -44,6 +44,7 @@ pub struct EqReply {
 }
 
 // Whether the number of the constellation is known.
+#[tactic(auto, unfolding(crate::specs::RawRecord::known_settings))]
 pub fn known_settings(p: EqSettings) -> bool
     ensures { result ≡ known_settings p }
 {
@@ -129,6 +130,7 @@ pub fn record_out(s: EqualizeState) -> EqRecord
 }
 
 // What new replies with where it made none.
+#[tactic(auto, unfolding(crate::specs::RawRecord::no_record))]
 pub fn no_record() -> EqRecord
     ensures { result ≡ no_record }
 {
@@ -204,6 +206,7 @@ fn refused(state: EqRecord, e: Error) -> EqReply
 }
 
 // A reply that serves.
+#[tactic(auto, unfolding(crate::specs::RawRecord::replied))]
 pub fn served(state: EqRecord) -> EqReply
     ensures { result ≡ replied state (reply_of Outcome.Served) }
 {
