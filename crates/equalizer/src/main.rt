@@ -1,6 +1,8 @@
-// The program as the gate runs it. With its exit status it is built from `equalizer_status` and a `main` in C (Makefile).
+// The program.
 #![tactic(auto)]
 
-fn main() {
-    equalizer_body::served();
+use std::process::ExitCode;
+
+fn main(rt: HostRuntime) -> ExitCode {
+    equalizer_status::exit_code(equalizer_status::equalizer_main(&rt))
 }

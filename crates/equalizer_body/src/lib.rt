@@ -11,29 +11,32 @@ ghost use Rattle.program.specs.Status.{ExitStatus};
 use crate::options::{Asked, Options};
 use crate::outputs::{Outputs, Ready};
 use equalizer_stream::Ways;
+use program::files::OpenInput;
+use program::{arguments, files};
+use std::io::IsTerminal;
 use types::{EqualizeState, Fresh};
 
-// The whole program, and its exit status. Both programs start here: the one that the gate runs, and the one whose `main` is in C.
-pub fn served() -> i32
+// The whole program, and its exit status.
+pub fn served(rt: &HostRuntime) -> i32
     ensures { ExitStatus result }
 {
-    let count = os::arg_count();
-    let status = each(count, false);
+    let count = arguments::count(rt);
+    let status = each(rt, count, false);
     if status != program::SERVED {
         return status;
     }
-    each(count, true)
+    each(rt, count, true)
 }
 
 // Reads the options of every run, or runs each, and stops at the first that is not served.
-fn each(count: usize, serve: bool) -> i32
+fn each(rt: &HostRuntime, count: usize, serve: bool) -> i32
     ensures { ExitStatus result }
 {
     let mut at = 1;
     let mut turns = count;
     while turns > 0 {
-        let end = options::end_of(at, count);
-        let status = run(at, end, serve);
+        let end = options::end_of(rt, at, count);
+        let status = run(rt, at, end, serve);
         if status != program::SERVED {
             return status;
         }
@@ -46,51 +49,55 @@ fn each(count: usize, serve: bool) -> i32
     program::SERVED
 }
 
-fn run(at: usize, end: usize, serve: bool) -> i32
+fn run(rt: &HostRuntime, at: usize, end: usize, serve: bool) -> i32
     ensures { ExitStatus result }
 {
-    match options::read(at, end) {
+    match options::read(rt, at, end) {
         Asked::Faulty(f) => {
-            report::fault(f);
+            report::fault(rt, f);
             program::USAGE
         }
         Asked::Run(o) => {
             if o.help || o.version {
-                return said(serve, o.help);
+                return said(rt, serve, o.help);
             }
-            if !is_ready(o) {
+            if !is_ready(rt, o) {
                 return program::USAGE;
             }
-            job(o, serve)
+            job(rt, o, serve)
         }
     }
 }
 
 // Help or the version, once it is its turn.
-fn said(serve: bool, help: bool) -> i32
+fn said(rt: &HostRuntime, serve: bool, help: bool) -> i32
     ensures { ExitStatus result }
 {
     if !serve {
         return program::SERVED;
     }
     if help {
-        return report::help();
+        return report::help(rt);
     }
-    report::version()
+    report::version(rt)
 }
 
 // Samples are neither typed in nor shown on a terminal, and standard output is one output.
-fn is_ready(o: Options) -> bool {
+fn is_ready(rt: &HostRuntime, o: Options) -> bool {
     let i = o.input;
     let s = o.output;
     let m = o.marks;
     let c = o.curve;
-    if i.is_standard() && libc::isatty(libc::STDIN_FILENO) == 1 {
-        report::plain(b"samples come from --in FILE or standard input; see --help");
+    if i.is_standard() && rt.stdin().is_terminal() {
+        report::plain(
+            rt,
+            b"samples come from --in FILE or standard input; see --help",
+        );
         return false;
     }
-    if s.is_standard() && !o.text && libc::isatty(libc::STDOUT_FILENO) == 1 {
+    if s.is_standard() && !o.text && rt.stdout().is_terminal() {
         report::plain(
+            rt,
             b"symbols go to --out FILE or standard output, not to a terminal; see --help and --text",
         );
         return false;
@@ -99,7 +106,10 @@ fn is_ready(o: Options) -> bool {
         || (s.is_standard() && c.is_standard())
         || (m.is_standard() && c.is_standard())
     {
-        report::plain(b"two outputs cannot both be standard output; nothing was written");
+        report::plain(
+            rt,
+            b"two outputs cannot both be standard output; nothing was written",
+        );
         return false;
     }
     true
@@ -118,21 +128,21 @@ fn parts_of(o: Options) -> usize
     2 * (o.taps + o.feedback)
 }
 
-fn job(o: Options, serve: bool) -> i32
+fn job(rt: &HostRuntime, o: Options, serve: bool) -> i32
     ensures { ExitStatus result }
 {
     let mut weights = [0.0f32; 4096];
     let mut window = [0.0f32; 4096];
     let parts = parts_of(o);
-    start(o, &mut weights[..parts], &mut window[..parts], serve)
+    start(rt, o, &mut weights[..parts], &mut window[..parts], serve)
 }
 
-fn start(o: Options, weights: &mut [f32], window: &mut [f32], serve: bool) -> i32
+fn start(rt: &HostRuntime, o: Options, weights: &mut [f32], window: &mut [f32], serve: bool) -> i32
     ensures { ExitStatus result }
 {
     match equalize_state::new(weights, window, o.params()) {
         Fresh::NotMade(e) => {
-            report::refused(e);
+            report::refused(rt, e);
             program::USAGE
         }
         Fresh::Made(s) => {
@@ -140,31 +150,37 @@ fn start(o: Options, weights: &mut [f32], window: &mut [f32], serve: bool) -> i3
                 return program::SERVED;
             }
             let state = equalize_state::set_frequency(s, o.frequency);
-            with_input(o, state, weights, window)
+            with_input(rt, o, state, weights, window)
         }
     }
 }
 
-fn with_input(o: Options, state: EqualizeState, weights: &mut [f32], window: &mut [f32]) -> i32
+fn with_input(
+    rt: &HostRuntime,
+    o: Options,
+    state: EqualizeState,
+    weights: &mut [f32],
+    window: &mut [f32],
+) -> i32
     ensures { ExitStatus result }
 {
     let v = o.input;
-    let input = program::files::input(b"equalizer", v);
-    if input < 0 {
-        return program::FAILED;
-    }
-    match outputs::opened(o, input) {
-        Ready::NotAll => {
-            program::files::close_input(v, input);
-            program::FAILED
-        }
-        Ready::All(f) => with_files(o, input, f, state, weights, window),
+    match files::input(rt, b"equalizer", v) {
+        None => program::FAILED,
+        Some(input) => match outputs::opened(rt, o, &input) {
+            Ready::NotAll => {
+                files::close_input(input);
+                program::FAILED
+            }
+            Ready::All(f) => with_files(rt, o, input, f, state, weights, window),
+        },
     }
 }
 
 fn with_files(
+    rt: &HostRuntime,
     o: Options,
-    input: i32,
+    input: OpenInput,
     f: Outputs,
     state: EqualizeState,
     weights: &mut [f32],
@@ -177,17 +193,22 @@ fn with_files(
         block: o.block,
         text: o.text,
     };
-    let done = equalizer_stream::all(ways, outputs::files_of(input, f), state, weights, window);
-    let v = o.input;
-    program::files::close_input(v, input);
-    report::done(o, done);
+    let done = equalizer_stream::all(
+        ways,
+        outputs::files_of(rt, &input, &f),
+        state,
+        weights,
+        window,
+    );
+    files::close_input(input);
+    report::done(rt, o, done);
     if !done.is_whole() {
-        outputs::left(f);
-        report::plain(b"FAILED: the input was not served whole");
+        outputs::left(rt, f);
+        report::plain(rt, b"FAILED: the input was not served whole");
         return program::FAILED;
     }
-    if !outputs::whole(f) {
-        report::plain(b"FAILED: not every output has its name");
+    if !outputs::whole(rt, f) {
+        report::plain(rt, b"FAILED: not every output has its name");
         return program::FAILED;
     }
     program::SERVED

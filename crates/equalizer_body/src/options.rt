@@ -4,9 +4,10 @@ ghost use Rattle.std.specs.Prelude.{◌<◌};
 use program::arguments::{Fault, Value};
 use program::numbers::{Real, Whole};
 use program::{arguments, numbers};
+use std::env::Env;
 use types::{EqConstellation, EqParams};
 
-#[derive(Drop)]
+#[derive(Clone, Copy)]
 pub(crate) struct Options {
     // By its number, which can be set in place.
     constellation: u32,
@@ -30,19 +31,19 @@ pub(crate) struct Options {
 }
 
 // Options that were read, or the fault that ended the reading.
-#[derive(Drop)]
+#[derive(Clone, Copy)]
 pub(crate) enum Asked {
     Run(Options),
     Faulty(Fault),
 }
 
-#[derive(Drop)]
+#[derive(Clone, Copy)]
 enum Set {
     To(Options),
     Unreadable,
 }
 
-#[derive(Drop)]
+#[derive(Clone, Copy)]
 enum Turn {
     Next(Options, usize),
     Stop(Fault),
@@ -249,12 +250,11 @@ fn with_value(o: Options, k: usize, value: &[u8], v: Value) -> Set {
 }
 
 // The option at `at`, which has the number k, its value, and where the next option stands.
-fn take_value(o: Options, k: usize, at: usize, v: Value, next: usize) -> Turn {
+fn take_value(rt: &HostRuntime, o: Options, k: usize, at: usize, v: Value, next: usize) -> Turn {
     let mut value = io::buffer();
-    let n = arguments::text_of(v, &mut value);
-    if os::errno() != 0 {
+    let Ok(n) = arguments::whole_text_of(rt, v, &mut value) else {
         return Turn::Stop(Fault::Long(v.at));
-    }
+    };
     match with_value(o, k, &value[..n], v) {
         Set::To(p) => Turn::Next(p, next),
         Set::Unreadable => Turn::Stop(Fault::Unreadable(at, k, v)),
@@ -277,7 +277,7 @@ fn take_flag(o: Options, k: usize, at: usize) -> Turn
 }
 
 // The option at `at`, of number k; `from` is where its value stands behind a `=`, or 0.
-fn take_option(o: Options, k: usize, at: usize, from: usize, end: usize) -> Turn
+fn take_option(rt: &HostRuntime, o: Options, k: usize, at: usize, from: usize, end: usize) -> Turn
     requires { at < end }
 {
     if k >= 14 {
@@ -287,12 +287,13 @@ fn take_option(o: Options, k: usize, at: usize, from: usize, end: usize) -> Turn
         return take_flag(o, k, at);
     }
     if from != 0 {
-        return take_value(o, k, at, Value { at, from }, at + 1);
+        return take_value(rt, o, k, at, Value { at, from }, at + 1);
     }
     if at + 1 == end {
         return Turn::Stop(Fault::NoValue(at));
     }
     take_value(
+        rt,
         o,
         k,
         at,
@@ -304,22 +305,21 @@ fn take_option(o: Options, k: usize, at: usize, from: usize, end: usize) -> Turn
     )
 }
 
-fn take(o: Options, at: usize, end: usize) -> Turn
+fn take(rt: &HostRuntime, o: Options, at: usize, end: usize) -> Turn
     requires { at < end }
 {
     let mut name = io::buffer();
-    let n = os::arg(at, &mut name);
-    if os::errno() != 0 {
+    let Ok(n) = rt.arg(at, &mut name) else {
         return Turn::Stop(Fault::Long(at));
-    }
+    };
     let e = arguments::name_end(&name[..n]);
     let from = if e < n { e + 1 } else { 0 };
     let k = option(&name[..e]);
-    take_option(o, k, at, from, end)
+    take_option(rt, o, k, at, from, end)
 }
 
 // The options of the arguments from `start` to before `end`. Every turn takes an argument, so there are no more turns than arguments.
-pub(crate) fn read(start: usize, end: usize) -> Asked {
+pub(crate) fn read(rt: &HostRuntime, start: usize, end: usize) -> Asked {
     let mut o = Options::start();
     let mut at = start;
     let mut turns = end;
@@ -327,7 +327,7 @@ pub(crate) fn read(start: usize, end: usize) -> Asked {
         if at >= end {
             return Asked::Run(o);
         }
-        match take(o, at, end) {
+        match take(rt, o, at, end) {
             Turn::Next(n, i) => {
                 o = n;
                 at = i;
@@ -339,17 +339,17 @@ pub(crate) fn read(start: usize, end: usize) -> Asked {
     Asked::Run(o)
 }
 
-fn is_then(at: usize) -> bool {
+fn is_then(rt: &HostRuntime, at: usize) -> bool {
     let mut name = io::buffer();
-    let n = os::arg(at, &mut name);
+    let n = arguments::text_of(rt, Value { at, from: 0 }, &mut name);
     arguments::place(b"--then ", &name[..n]) == 0
 }
 
 // Where the arguments of a run end: at the next `--then`, or at the last.
-pub(crate) fn end_of(start: usize, count: usize) -> usize {
+pub(crate) fn end_of(rt: &HostRuntime, start: usize, count: usize) -> usize {
     let mut at = start;
     while at < count {
-        if is_then(at) {
+        if is_then(rt, at) {
             return at;
         }
         at += 1;

@@ -4,9 +4,9 @@ ghost use Rattle.program.specs.Status.{ExitStatus};
 use crate::options;
 use crate::options::Options;
 use equalizer_stream::{Done, Ending, Tally};
-use libc::STDOUT_FILENO;
 use program::arguments::{Fault, Value};
-use program::{messages, text};
+use program::{arguments, messages, text};
+use std::env::Env;
 use types::{EqualizeState, Error};
 
 fn begin(p: &mut [u8], words: &[u8]) -> usize {
@@ -14,61 +14,61 @@ fn begin(p: &mut [u8], words: &[u8]) -> usize {
     text::words(p, at, words)
 }
 
-pub(crate) fn plain(words: &[u8]) {
-    messages::plain(b"equalizer", words);
+pub(crate) fn plain(rt: &HostRuntime, words: &[u8]) {
+    messages::plain(rt, b"equalizer", words);
 }
 
 // A line with an argument in it.
-fn with_argument(before: &[u8], at: usize, after: &[u8]) {
-    messages::with_value(b"equalizer", before, Value { at, from: 0 }, after);
+fn with_argument(rt: &HostRuntime, before: &[u8], at: usize, after: &[u8]) {
+    messages::with_value(rt, b"equalizer", before, Value { at, from: 0 }, after);
 }
 
 // The first bytes of an argument that is too long.
-fn too_long(at: usize) {
+fn too_long(rt: &HostRuntime, at: usize) {
     let mut p = [0u8; 8192];
     let a = begin(&mut p, b"an argument is longer than 4096 bytes: ");
     let mut name = io::buffer();
-    os::arg(at, &mut name);
+    let _ = rt.arg(at, &mut name);
     let b = text::words(&mut p, a, &name[..40]);
     let c = text::words(&mut p, b, b"..");
-    messages::tell(&mut p, c);
+    messages::tell(rt, &mut p, c);
 }
 
-fn not_taken(at: usize, k: usize, v: Value) {
+fn not_taken(rt: &HostRuntime, at: usize, k: usize, v: Value) {
     let mut p = [0u8; 8192];
     let a = begin(&mut p, b"");
-    let b = option_name(&mut p, a, at);
+    let b = option_name(rt, &mut p, a, at);
     let c = text::words(&mut p, b, b" does not take ");
-    let d = quoted(&mut p, c, v);
+    let d = quoted(rt, &mut p, c, v);
     let e = text::words(&mut p, d, b": it takes ");
     let f = options::taken(k, &mut p, e);
-    messages::tell(&mut p, f);
+    messages::tell(rt, &mut p, f);
 }
 
 // An option without the value behind its `=`.
-fn option_name(p: &mut [u8], start: usize, at: usize) -> usize {
+fn option_name(rt: &HostRuntime, p: &mut [u8], start: usize, at: usize) -> usize {
     let mut name = io::buffer();
-    let n = os::arg(at, &mut name);
-    let e = program::arguments::name_end(&name[..n]);
+    let n = arguments::text_of(rt, Value { at, from: 0 }, &mut name);
+    let e = arguments::name_end(&name[..n]);
     text::words(p, start, &name[..e])
 }
 
 // A value, or that it is empty.
-fn quoted(p: &mut [u8], start: usize, v: Value) -> usize {
-    let at = messages::value(p, start, v);
+fn quoted(rt: &HostRuntime, p: &mut [u8], start: usize, v: Value) -> usize {
+    let at = messages::value(rt, p, start, v);
     if at == start {
         return text::words(p, at, b"an empty value");
     }
     at
 }
 
-pub(crate) fn fault(f: Fault) {
+pub(crate) fn fault(rt: &HostRuntime, f: Fault) {
     match f {
-        Fault::Unknown(at) => with_argument(b"there is no option ", at, b"; --help lists them"),
-        Fault::NoValue(at) => with_argument(b"", at, b" takes a value; --help says which"),
-        Fault::NotTaken(at) => with_argument(b"", at, b" takes no value"),
-        Fault::Long(at) => too_long(at),
-        Fault::Unreadable(at, k, v) => not_taken(at, k, v),
+        Fault::Unknown(at) => with_argument(rt, b"there is no option ", at, b"; --help lists them"),
+        Fault::NoValue(at) => with_argument(rt, b"", at, b" takes a value; --help says which"),
+        Fault::NotTaken(at) => with_argument(rt, b"", at, b" takes no value"),
+        Fault::Long(at) => too_long(rt, at),
+        Fault::Unreadable(at, k, v) => not_taken(rt, at, k, v),
     }
 }
 
@@ -125,14 +125,14 @@ fn both(p: &mut [u8], start: usize, expected: usize, got: usize) -> usize {
     counted(p, b, got as u64, b" given")
 }
 
-pub(crate) fn refused(e: Error) {
+pub(crate) fn refused(rt: &HostRuntime, e: Error) {
     let number = types_numbers::error_number(e);
     let mut p = [0u8; 8192];
     let a = begin(&mut p, b"refused, number ");
     let b = counted(&mut p, a, number as u64, b": ");
     let c = reason(&mut p, b, number);
     let d = lengths(&mut p, c, e);
-    messages::tell(&mut p, d);
+    messages::tell(rt, &mut p, d);
 }
 
 // Bytes that are no marks are named only where there are some.
@@ -144,7 +144,7 @@ fn unknown(p: &mut [u8], start: usize, n: u64) -> usize {
     counted(p, at, n, b" unknown")
 }
 
-fn counts(t: Tally) {
+fn counts(rt: &HostRuntime, t: Tally) {
     let mut p = [0u8; 8192];
     let a = begin(&mut p, b"");
     let b = counted(&mut p, a, t.samples, b" samples: ");
@@ -152,10 +152,10 @@ fn counts(t: Tally) {
     let d = counted(&mut p, c, t.blank, b" blank, ");
     let e = counted(&mut p, d, t.spilled, b" spilled");
     let f = unknown(&mut p, e, t.unknown);
-    messages::tell(&mut p, f);
+    messages::tell(rt, &mut p, f);
 }
 
-fn record(s: EqualizeState) {
+fn record(rt: &HostRuntime, s: EqualizeState) {
     let mut p = [0u8; 8192];
     let m = s.mode;
     let a = begin(&mut p, b"mode ");
@@ -163,10 +163,10 @@ fn record(s: EqualizeState) {
     let c = measured(&mut p, b, b", mean error ", s.mse);
     let d = measured(&mut p, c, b", frequency ", s.freq);
     let e = text::words(&mut p, d, b" turns per sample");
-    messages::tell(&mut p, e);
+    messages::tell(rt, &mut p, e);
 }
 
-fn left_over(n: usize) {
+fn left_over(rt: &HostRuntime, n: usize) {
     let mut p = [0u8; 8192];
     let a = begin(&mut p, b"the input is truncated: ");
     let b = counted(
@@ -175,88 +175,104 @@ fn left_over(n: usize) {
         n as u64,
         b" bytes are left over, and a sample has 8",
     );
-    messages::tell(&mut p, b);
+    messages::tell(rt, &mut p, b);
 }
 
 // A file by its name, or a standard stream.
-fn source(p: &mut [u8], start: usize, v: Value, standard: &[u8], part: &[u8]) -> usize {
+fn source(
+    rt: &HostRuntime,
+    p: &mut [u8],
+    start: usize,
+    v: Value,
+    standard: &[u8],
+    part: &[u8],
+) -> usize {
     if v.is_file() {
-        let at = messages::value(p, start, v);
+        let at = messages::value(rt, p, start, v);
         return text::words(p, at, part);
     }
     text::words(p, start, standard)
 }
 
 // A read or a write that failed, by its file and the reason.
-fn broken(what: &[u8], v: Value, standard: &[u8], part: &[u8], error: i32) {
+fn broken(rt: &HostRuntime, what: &[u8], v: Value, standard: &[u8], part: &[u8], error: i32) {
     let mut p = [0u8; 8192];
     let a = begin(&mut p, what);
-    let b = source(&mut p, a, v, standard, part);
+    let b = source(rt, &mut p, a, v, standard, part);
     let c = text::words(&mut p, b, b" failed: ");
     let d = messages::reason(&mut p, c, error);
-    messages::tell(&mut p, d);
+    messages::tell(rt, &mut p, d);
 }
 
-fn unwritten(o: Options, which: u32, error: i32) {
+fn unwritten(rt: &HostRuntime, o: Options, which: u32, error: i32) {
     let s = o.output;
     let m = o.marks;
     let c = o.curve;
     match which {
-        0 => broken(b"writing ", s, b"standard output", b".part", error),
-        1 => broken(b"writing ", m, b"standard output", b".part", error),
-        _ => broken(b"writing ", c, b"standard output", b".part", error),
+        0 => broken(rt, b"writing ", s, b"standard output", b".part", error),
+        1 => broken(rt, b"writing ", m, b"standard output", b".part", error),
+        _ => broken(rt, b"writing ", c, b"standard output", b".part", error),
     }
 }
 
-fn unread(o: Options, error: i32) {
+fn unread(rt: &HostRuntime, o: Options, error: i32) {
     let v = o.input;
-    broken(b"reading ", v, b"standard input", b"", error);
+    broken(rt, b"reading ", v, b"standard input", b"", error);
 }
 
-fn trouble(o: Options, e: Ending) {
+fn trouble(rt: &HostRuntime, o: Options, e: Ending) {
     match e {
         Ending::Whole => return,
-        Ending::Truncated(n) => left_over(n),
-        Ending::Unread(error) => unread(o, error),
-        Ending::Unwritten(which, error) => unwritten(o, which, error),
-        Ending::Refused(error) => refused(error),
+        Ending::Truncated(n) => left_over(rt, n),
+        Ending::Unread(error) => unread(rt, o, error),
+        Ending::Unwritten(which, error) => unwritten(rt, o, which, error),
+        Ending::Refused(error) => refused(rt, error),
     }
 }
 
 // The summary, and what went wrong.
-pub(crate) fn done(o: Options, d: Done) {
+pub(crate) fn done(rt: &HostRuntime, o: Options, d: Done) {
     let p = d.progress;
     let t = p.tally;
     let s = p.state;
     let e = d.ending;
-    counts(t);
-    record(s);
-    trouble(o, e);
+    counts(rt, t);
+    record(rt, s);
+    trouble(rt, o, e);
 }
 
-// Whether all of a text came to standard output.
-fn told(sent: bool) -> i32
+// Writes a text to standard output, and answers the status: whether all of it came there.
+fn told(rt: &HostRuntime, t: &[u8]) -> i32
     ensures { ExitStatus result }
 {
-    if sent {
-        return program::SERVED;
+    match text::send(&mut rt.stdout(), t, t.len()) {
+        Ok(()) => program::SERVED,
+        Err(e) => {
+            let error = messages::number_of(&e);
+            broken(
+                rt,
+                b"writing ",
+                Value::STANDARD,
+                b"standard output",
+                b"",
+                error,
+            );
+            program::FAILED
+        }
     }
-    let error = os::errno();
-    broken(b"writing ", Value::STANDARD, b"standard output", b"", error);
-    program::FAILED
 }
 
-pub(crate) fn version() -> i32
+pub(crate) fn version(rt: &HostRuntime) -> i32
     ensures { ExitStatus result }
 {
-    told(io::write_all(STDOUT_FILENO, b"equalizer 0.1.0\n"))
+    told(rt, b"equalizer 0.1.0\n")
 }
 
-pub(crate) fn help() -> i32
+pub(crate) fn help(rt: &HostRuntime) -> i32
     ensures { ExitStatus result }
 {
-    told(io::write_all(
-        STDOUT_FILENO,
+    told(
+        rt,
         b"usage: equalizer [OPTION [VALUE]].. [--then [OPTION [VALUE]]..]..
 Equalizes complex samples. Samples and symbols are cf32: interleaved little-endian f32, real part first.
 A sample that is not finite is a blank, and its symbol is (0, 0).
@@ -286,5 +302,5 @@ A named output is FILE.part, which must not be there, until the whole input is s
 a file that had the name stays till then. FILE is a plain file: for a pipe or a device use standard output.
 Exit status: 0 all was served; 1 something failed, and a message says what; 2 the options are wrong, and nothing was done.
 ",
-    ))
+    )
 }

@@ -1,11 +1,22 @@
-// The program for a `main` in C, which hands on its exit status.
+// The program as it is started, with its exit status.
 #![tactic(auto)]
 
+ghost use Rattle.std.specs.Prelude.{◌≡◌, pos};
+ghost use Rattle.std.specs.Process.{exit_status};
 ghost use Rattle.program.specs.Status.{ExitStatus};
 
-#[unsafe(no_mangle)]
-pub extern "C" fn equalizer_main() -> i32
+use std::process::ExitCode;
+
+pub fn equalizer_main(rt: &HostRuntime) -> i32
     ensures { ExitStatus result }
 {
-    equalizer_body::served()
+    equalizer_body::served(rt)
+}
+
+// The status as the system takes it.
+pub fn exit_code(status: i32) -> ExitCode
+    requires { ExitStatus status }
+    ensures { pos (exit_status result) ≡ status }
+{
+    ExitCode::from(status as u8)
 }

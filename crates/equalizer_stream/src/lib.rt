@@ -5,27 +5,30 @@ ghost use Rattle.std.specs.Prelude.{◌*◌, ◌≤◌, ◌<◌, ◌≡◌};
 ghost use Rattle.equalizer_stream.specs.Ends.{is_whole};
 ghost use Rattle.equalizer_stream.specs.Room.{Holds};
 
-use program::text;
+use program::files::{Sink, Source};
+use program::{messages, text};
+use std::io::{Read, Result};
 use types::{EqMode, EqualizeState, Equalized, Error, Mark, Outcome};
 
 // How a stream is served: by the plain path or the fast one, how many samples a call, as text or as bytes.
-#[derive(Drop)]
+#[derive(Clone, Copy)]
 pub struct Ways {
     pub plain: bool,
     pub block: usize,
     pub text: bool,
 }
 
-// The descriptors of a stream; -1 where an output is not wanted.
-#[derive(Drop)]
-pub struct Files {
-    pub input: i32,
-    pub output: i32,
-    pub marks: i32,
-    pub curve: i32,
+// The files of a stream. Of an input at hand, as a file is, as much can be read at once as one likes; a pipe is served block by block.
+#[derive(Clone, Copy)]
+pub struct Files<'a> {
+    pub input: Source<'a>,
+    pub at_hand: bool,
+    pub output: Sink<'a>,
+    pub marks: Sink<'a>,
+    pub curve: Sink<'a>,
 }
 
-#[derive(Drop)]
+#[derive(Clone, Copy)]
 pub struct Tally {
     pub samples: u64,
     pub heard: u64,
@@ -45,14 +48,14 @@ impl Tally {
     };
 }
 
-#[derive(Drop)]
+#[derive(Clone, Copy)]
 pub struct Progress {
     pub state: EqualizeState,
     pub tally: Tally,
 }
 
 // How a stream ended. A failed read or write has the system's error, and a write which output it was: 0 symbols, 1 marks, 2 the curve.
-#[derive(Drop)]
+#[derive(Clone, Copy)]
 pub enum Ending {
     Whole,
     // The bytes that are left over.
@@ -62,7 +65,7 @@ pub enum Ending {
     Refused(Error),
 }
 
-#[derive(Drop)]
+#[derive(Clone, Copy)]
 pub struct Done {
     pub progress: Progress,
     pub ending: Ending,
@@ -83,14 +86,14 @@ impl Done {
     }
 }
 
-#[derive(Drop)]
+#[derive(Clone, Copy)]
 enum Turn {
     More(Progress),
     End(Done),
 }
 
 // Bytes that were read, and whether the input has ended or failed.
-#[derive(Drop)]
+#[derive(Clone, Copy)]
 struct Filled {
     bytes: usize,
     more: bool,
@@ -106,21 +109,33 @@ fn least(a: usize, b: usize) -> usize
 }
 
 // Reads until `want` bytes are there, the input ends or a read fails.
-fn fill(fd: i32, raw: &mut [u8], want: usize) -> Filled {
+fn fill(input: Source<'_>, raw: &mut [u8], want: usize) -> Filled {
+    let mut from = input;
     let most = least(want, raw.len());
     let mut have = 0;
     while have < most {
-        let got = libc::read(fd, &mut raw[have..most]);
-        let n = least(io::count(got, raw), most - have);
-        if n == 0 {
-            return Filled {
-                bytes: have,
-                more: false,
-                failed: got < 0,
-                error: os::errno(),
-            };
+        match from.read(&mut raw[have..most]) {
+            Ok(got) => {
+                let n = least(got, most - have);
+                if n == 0 {
+                    return Filled {
+                        bytes: have,
+                        more: false,
+                        failed: false,
+                        error: 0,
+                    };
+                }
+                have += n;
+            }
+            Err(e) => {
+                return Filled {
+                    bytes: have,
+                    more: false,
+                    failed: true,
+                    error: messages::number_of(&e),
+                };
+            }
         }
-        have += n;
     }
     Filled {
         bytes: have,
@@ -178,42 +193,30 @@ fn line(p: &mut [u8], start: usize, re: f32, im: f32, mark: u8) -> usize {
 // No line is as long.
 const LINE: usize = 128;
 
-// Writes a page that has no room for another line, and begins it anew.
-fn turned(fd: i32, p: &[u8], at: usize) -> Page {
+// Writes a page that has no room for another line, and begins it anew. Answers how much of it is used.
+fn turned(to: &mut Sink<'_>, p: &[u8], at: usize) -> Result<usize> {
     if at < p.len() {
         if p.len() - at > LINE {
-            return Page { at, sent: true };
+            return Ok(at);
         }
     }
-    Page {
-        at: 0,
-        sent: text::send(fd, p, at),
-    }
-}
-
-// How much of a page is used, and whether all before it was written.
-#[derive(Drop)]
-struct Page {
-    at: usize,
-    sent: bool,
+    text::send(to, p, at)?;
+    Ok(0)
 }
 
 // The symbols as lines of text.
-fn lines(fd: i32, y: &[f32], marks: &[u8], count: usize) -> bool {
+fn lines(output: Sink<'_>, y: &[f32], marks: &[u8], count: usize) -> Result<()> {
+    let mut to = output;
     let mut p = [0u8; 8192];
     let mut at = 0;
     let mut i = 0;
     let n = least(count, least(y.len() / 2, marks.len()));
     while i < n {
         at = line(&mut p, at, y[2 * i], y[2 * i + 1], marks[i]);
-        let page = turned(fd, &p, at);
-        if !page.sent {
-            return false;
-        }
-        at = page.at;
+        at = turned(&mut to, &p, at)?;
         i += 1;
     }
-    text::send(fd, &p, at)
+    text::send(&mut to, &p, at)
 }
 
 pub fn mode(p: &mut [u8], at: usize, m: EqMode) -> usize {
@@ -234,13 +237,14 @@ fn point(p: &mut [u8], start: usize, t: Tally, s: EqualizeState) -> usize {
 }
 
 // Writes a point, where a curve is wanted.
-fn drawn(fd: i32, t: Tally, s: EqualizeState) -> bool {
-    if fd < 0 {
-        return true;
+fn drawn(curve: Sink<'_>, t: Tally, s: EqualizeState) -> Result<()> {
+    if !curve.is_wanted() {
+        return Ok(());
     }
+    let mut to = curve;
     let mut p = [0u8; 128];
     let at = point(&mut p, 0, t, s);
-    text::send(fd, &p, at)
+    text::send(&mut to, &p, at)
 }
 
 fn ended_by(got: Filled) -> Ending {
@@ -254,7 +258,7 @@ fn ended_by(got: Filled) -> Ending {
 }
 
 // What was served of the samples that were read, and how the calls ended.
-#[derive(Drop)]
+#[derive(Clone, Copy)]
 struct Batch {
     progress: Progress,
     count: usize,
@@ -343,7 +347,7 @@ fn until(at: usize, block: usize, n: usize) -> usize
 }
 
 // What a call gave: how far it came, or how it ended the stream.
-#[derive(Drop)]
+#[derive(Clone, Copy)]
 enum Onward {
     To(Progress),
     End(Ending),
@@ -352,7 +356,7 @@ enum Onward {
 // One call on the samples from `at` to before `to`, its marks counted and its point drawn.
 fn called(
     o: Ways,
-    curve: i32,
+    curve: Sink<'_>,
     p: Progress,
     weights: &mut [f32],
     window: &mut [f32],
@@ -382,13 +386,13 @@ fn called(
         Outcome::Refused(error) => Onward::End(Ending::Refused(error)),
         Outcome::Served => {
             let t = tallied(p.tally, marks, at, to);
-            if drawn(curve, t, next) {
-                return Onward::To(Progress {
+            match drawn(curve, t, next) {
+                Ok(()) => Onward::To(Progress {
                     state: next,
                     tally: t,
-                });
+                }),
+                Err(e) => Onward::End(Ending::Unwritten(2, messages::number_of(&e))),
             }
-            Onward::End(Ending::Unwritten(2, os::errno()))
         }
     }
 }
@@ -396,7 +400,7 @@ fn called(
 // Equalizes the n samples that were read, by calls of a block.
 fn calls(
     o: Ways,
-    curve: i32,
+    curve: Sink<'_>,
     start: Progress,
     weights: &mut [f32],
     window: &mut [f32],
@@ -430,27 +434,29 @@ fn calls(
     }
 }
 
-fn symbols(fd: i32, is_text: bool, out: &[u8], marks: &[u8], n: usize) -> bool
+fn symbols(output: Sink<'_>, is_text: bool, out: &[u8], marks: &[u8], n: usize) -> Result<()>
     requires { 8 * n ≤ 32768 }
 {
     if is_text {
         let mut y = [0.0f32; 8192];
         cf32::floats(out, &mut y);
-        return lines(fd, &y, marks, n);
+        return lines(output, &y, marks, n);
     }
-    text::send(fd, out, 8 * n)
+    let mut to = output;
+    text::send(&mut to, out, 8 * n)
 }
 
 // Writes what the calls gave for n samples.
-fn deliver(o: Ways, f: Files, out: &[u8], marks: &[u8], n: usize) -> Ending
+fn deliver(o: Ways, f: Files<'_>, out: &[u8], marks: &[u8], n: usize) -> Ending
     requires { 8 * n ≤ 32768 }
 {
-    if !symbols(f.output, o.text, out, marks, n) {
-        return Ending::Unwritten(0, os::errno());
+    if let Err(e) = symbols(f.output, o.text, out, marks, n) {
+        return Ending::Unwritten(0, messages::number_of(&e));
     }
-    if f.marks >= 0 {
-        if !text::send(f.marks, marks, n) {
-            return Ending::Unwritten(1, os::errno());
+    if f.marks.is_wanted() {
+        let mut to = f.marks;
+        if let Err(e) = text::send(&mut to, marks, n) {
+            return Ending::Unwritten(1, messages::number_of(&e));
         }
     }
     Ending::Whole
@@ -476,20 +482,15 @@ fn after(b: Batch, got: Filled) -> Turn {
     })
 }
 
-// Whether the input is a file, of which as much can be read at once as one likes; a pipe is served block by block.
-fn is_file(fd: i32) -> bool {
-    libc::lseek(fd, 0, libc::SEEK_CUR) >= 0
-}
-
 // How many samples are read at once: of a file as many whole blocks as 4,096 samples hold.
-fn at_once(fd: i32, block: usize) -> usize {
+fn at_once(at_hand: bool, block: usize) -> usize {
     if block < 1 {
         return 4096;
     }
     if block > 4096 {
         return 4096;
     }
-    if is_file(fd) {
+    if at_hand {
         return 4096 - least(4096 % block, 4096);
     }
     block
@@ -498,7 +499,7 @@ fn at_once(fd: i32, block: usize) -> usize {
 // Reads, equalizes and writes.
 fn one_turn(
     o: Ways,
-    f: Files,
+    f: Files<'_>,
     p: Progress,
     weights: &mut [f32],
     window: &mut [f32],
@@ -528,12 +529,12 @@ fn one_turn(
 // A proved loop has to end, and nothing says that a stream does: the turns are counted down from a number that no stream uses up.
 pub fn all(
     o: Ways,
-    f: Files,
+    f: Files<'_>,
     start: EqualizeState,
     weights: &mut [f32],
     window: &mut [f32],
 ) -> Done {
-    let want = at_once(f.input, o.block);
+    let want = at_once(f.at_hand, o.block);
     let mut p = Progress {
         state: start,
         tally: Tally::NONE,

@@ -1,11 +1,12 @@
 // Arguments: options `--name value`, `--name=value` and `--name`.
-ghost use Rattle.std.specs.Prelude.{◌≡◌, not, ◌&&◌, eqb};
+ghost use Rattle.std.specs.Prelude.{◌≡◌, not, ◌&&◌, nat_eq, IfOk};
 ghost use Rattle.io.specs.Counts.{IsPrefixLen};
 
 pub use program_words::words::{NOT_THERE, name_end, place};
+use std::env::{Env, FillError};
 
 // Where the text of a value stands: behind `from` bytes of argument `at`. Argument 0 names the program and is no value's.
-#[derive(Drop)]
+#[derive(Clone, Copy)]
 pub struct Value {
     pub at: usize,
     pub from: usize,
@@ -18,20 +19,20 @@ impl Value {
     pub const STANDARD: Value = Value { at: 0, from: 1 };
 
     pub fn is_file(self) -> bool
-        ensures { result ≡ not (eqb self.at 0) }
+        ensures { result ≡ not (nat_eq self.at 0) }
     {
         self.at != 0
     }
 
     pub fn is_standard(self) -> bool
-        ensures { result ≡ eqb self.at 0 && eqb self.from 1 }
+        ensures { result ≡ nat_eq self.at 0 && nat_eq self.from 1 }
     {
         (self.at == 0) & (self.from == 1)
     }
 }
 
 // What is wrong with an argument.
-#[derive(Drop)]
+#[derive(Clone, Copy)]
 pub enum Fault {
     // Argument `at` is no option.
     Unknown(usize),
@@ -64,10 +65,33 @@ fn moved(buf: &mut [u8], from: usize, n: usize) -> usize
     k
 }
 
-// Puts a value's text at the start of buf, and answers its length; errno is 0 where it is whole.
-pub fn text_of(v: Value, buf: &mut [u8]) -> usize
+// How many arguments there are, the program's name among them.
+pub fn count(env: &impl Env) -> usize {
+    let mut start = [0u8; 1];
+    for i in 0..usize::MAX {
+        if let Err(FillError::NotPresent) = env.arg(i, &mut start) {
+            return i;
+        }
+    }
+    usize::MAX
+}
+
+// Puts a value's text at the start of buf, and answers its length, where all of it is there.
+pub fn whole_text_of(env: &impl Env, v: Value, buf: &mut [u8]) -> Result<usize, FillError>
+    ensures { IfOk result (λ n. IsPrefixLen n buf.new) }
+{
+    match env.arg(v.at, buf) {
+        Ok(n) => Ok(moved(buf, v.from, n)),
+        Err(e) => Err(e),
+    }
+}
+
+// Puts a value's text at the start of buf, and answers its length; 0 where not all of it is there.
+pub fn text_of(env: &impl Env, v: Value, buf: &mut [u8]) -> usize
     ensures { IsPrefixLen result buf.new }
 {
-    let n = os::arg(v.at, buf);
-    moved(buf, v.from, n)
+    match whole_text_of(env, v, buf) {
+        Ok(n) => n,
+        Err(_) => 0,
+    }
 }

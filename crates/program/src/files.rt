@@ -4,25 +4,132 @@ ghost use Rattle.io.specs.Counts.{IsPrefixLen};
 
 use crate::arguments::Value;
 use crate::{arguments, messages, text};
-use libc::{STDIN_FILENO, STDOUT_FILENO};
 use program_look::{Kind, Seen};
+use std::fs;
+use std::fs::{File, OpenOptions};
+use std::io::{Error, Read, Result, Seek, Stdin, Stdout, Write};
 
-// An output: its name, its descriptor (-1 where it is not wanted), and which file its `.part` is.
+// The system's numbers of a few errors.
+const EEXIST: i32 = 17;
+
+const ENAMETOOLONG: i32 = 36;
+
+const EILSEQ: i32 = 84;
+
+// An input: standard input, or a file that is open.
+#[derive(Drop)]
+pub enum OpenInput {
+    Standard,
+    Named(File),
+}
+
+// What an input is read from.
+#[derive(Clone, Copy)]
+pub enum Source<'a> {
+    Standard(Stdin),
+    Named(&'a File),
+}
+
+impl OpenInput {
+    pub fn source(&self, rt: &HostRuntime) -> Source<'_> {
+        match self {
+            OpenInput::Standard => Source::Standard(rt.stdin()),
+            OpenInput::Named(file) => Source::Named(file),
+        }
+    }
+}
+
+impl Read for Source<'_> {
+    fn read(&mut self, buf: &mut [u8]) -> Result<usize> {
+        match *self {
+            Source::Standard(stdin) => {
+                let mut from = stdin;
+                from.read(buf)
+            }
+            Source::Named(file) => {
+                let mut from = file;
+                from.read(buf)
+            }
+        }
+    }
+}
+
+// An output: its name, its `.part` where it has one, and which file that is.
 #[derive(Drop)]
 pub struct Output {
     pub name: Value,
-    pub fd: i32,
+    part: Option<File>,
     device: u64,
     inode: u64,
 }
 
+// What an output is written to.
+#[derive(Clone, Copy)]
+pub enum Sink<'a> {
+    // It is not wanted.
+    Nowhere,
+    Standard(Stdout),
+    Named(&'a File),
+}
+
 impl Output {
-    pub const NONE: Output = Output {
-        name: Value { at: 0, from: 0 },
-        fd: -1,
-        device: 0,
-        inode: 0,
-    };
+    // One that is not wanted.
+    pub fn none() -> Output {
+        Output::standing(Value::NONE)
+    }
+
+    // Standard output, or none.
+    fn standing(name: Value) -> Output {
+        Output {
+            name,
+            part: None,
+            device: 0,
+            inode: 0,
+        }
+    }
+
+    pub fn sink(&self, rt: &HostRuntime) -> Sink<'_> {
+        match &self.part {
+            Some(file) => Sink::Named(file),
+            None => {
+                if self.name.is_standard() {
+                    Sink::Standard(rt.stdout())
+                } else {
+                    Sink::Nowhere
+                }
+            }
+        }
+    }
+}
+
+impl Sink<'_> {
+    pub fn is_wanted(self) -> bool {
+        match self {
+            Sink::Nowhere => false,
+            Sink::Standard(_) => true,
+            Sink::Named(_) => true,
+        }
+    }
+}
+
+impl Write for Sink<'_> {
+    fn write(&mut self, buf: &[u8]) -> Result<usize> {
+        match *self {
+            Sink::Nowhere => Ok(buf.len()),
+            Sink::Standard(stdout) => {
+                let mut to = stdout;
+                to.write(buf)
+            }
+            Sink::Named(file) => {
+                let mut to = file;
+                to.write(buf)
+            }
+        }
+    }
+
+    fn flush(&mut self) -> Result<()> {
+        Ok(())
+    }
 }
 
 #[derive(Drop)]
@@ -31,36 +138,41 @@ pub enum Opened {
     NotMade,
 }
 
-// Whether a read of nothing fails, as it does for a folder, which can be opened.
-fn is_unreadable(fd: i32) -> bool {
-    let mut none = [0u8; 0];
-    libc::read(fd, &mut none) < 0
+// A name as the text that std::fs takes.
+fn named(bytes: &[u8]) -> Result<&str> {
+    match str::from_utf8(bytes) {
+        Ok(text) => Ok(text),
+        Err(_) => Err(Error::from_raw_os_error(EILSEQ)),
+    }
 }
 
-// The descriptor of an input, or -1 and a message why there is none.
-pub fn input(program: &[u8], v: Value) -> i32 {
+// A file that can be read: a read of nothing fails for a folder, which can be opened.
+fn readable(rt: &HostRuntime, name: &[u8]) -> Result<File> {
+    let mut file = File::open(rt, named(name)?)?;
+    let mut none = [0u8; 0];
+    file.read(&mut none)?;
+    Ok(file)
+}
+
+// An input that is open, or none and a message why.
+pub fn input(rt: &HostRuntime, program: &[u8], v: Value) -> Option<OpenInput> {
     if !v.is_file() {
-        return STDIN_FILENO;
+        return Some(OpenInput::Standard);
     }
     let mut name = io::buffer();
-    let n = arguments::text_of(v, &mut name);
-    let fd = os::open_read(&name[..n]);
-    if fd < 0 {
-        let error = os::errno();
-        unread(program, v, error);
-        return -1;
+    let n = arguments::text_of(rt, v, &mut name);
+    match readable(rt, &name[..n]) {
+        Ok(file) => Some(OpenInput::Named(file)),
+        Err(e) => {
+            unread(rt, program, v, messages::number_of(&e));
+            None
+        }
     }
-    if is_unreadable(fd) {
-        let error = os::errno();
-        unread(program, v, error);
-        libc::close(fd);
-        return -1;
-    }
-    fd
 }
 
-fn unread(program: &[u8], v: Value, error: i32) {
+fn unread(rt: &HostRuntime, program: &[u8], v: Value, error: i32) {
     messages::failed(
+        rt,
         program,
         b"cannot read ",
         v,
@@ -70,9 +182,26 @@ fn unread(program: &[u8], v: Value, error: i32) {
     );
 }
 
-pub fn close_input(v: Value, fd: i32) {
-    if v.is_file() {
-        libc::close(fd);
+pub fn close_input(input: OpenInput) {
+    drop(input);
+}
+
+// Whether as much of an input can be read at once as one likes, as of a file.
+pub fn is_at_hand(rt: &HostRuntime, input: &OpenInput) -> bool {
+    match input {
+        OpenInput::Standard => is_plain(program_look::look_input(rt)),
+        OpenInput::Named(file) => {
+            let mut at = file;
+            at.stream_position().is_ok()
+        }
+    }
+}
+
+fn is_plain(l: Seen) -> bool {
+    match l.kind {
+        Kind::File => true,
+        Kind::Missing | Kind::Folder | Kind::Fifo | Kind::Device | Kind::Other | Kind::Hidden =>
+            false,
     }
 }
 
@@ -96,25 +225,25 @@ fn with_part(name: &mut [u8], n: usize) -> usize
 }
 
 // A value and `.part`.
-fn part_name(v: Value, name: &mut [u8]) -> usize
+fn part_name(rt: &HostRuntime, v: Value, name: &mut [u8]) -> usize
     ensures { IsPrefixLen result name.new }
 {
-    let n = arguments::text_of(v, name);
+    let n = arguments::text_of(rt, v, name);
     with_part(name, n)
 }
 
 // Which file a value names.
-fn looked(v: Value) -> Seen {
+fn looked(rt: &HostRuntime, v: Value) -> Seen {
     let mut name = io::buffer();
-    let n = arguments::text_of(v, &mut name);
-    program_look::look(&name[..n])
+    let n = arguments::text_of(rt, v, &mut name);
+    program_look::look(rt, &name[..n])
 }
 
 // Which file a value and `.part` name.
-fn looked_part(v: Value) -> Seen {
+fn looked_part(rt: &HostRuntime, v: Value) -> Seen {
     let mut name = io::buffer();
-    let n = part_name(v, &mut name);
-    program_look::look(&name[..n])
+    let n = part_name(rt, v, &mut name);
+    program_look::look(rt, &name[..n])
 }
 
 fn is_there(l: Seen) -> bool {
@@ -130,13 +259,16 @@ fn is_same(a: Seen, b: Seen) -> bool {
     is_there(a) && is_there(b) && a.device == b.device && a.inode == b.inode
 }
 
-fn is_part_of(l: Seen, o: Output) -> bool {
+fn is_part_of(l: Seen, o: &Output) -> bool {
     o.name.is_file() && is_there(l) && l.device == o.device && l.inode == o.inode
 }
 
-// What an input is, opened as `fd`.
-pub fn look_input(fd: i32) -> Seen {
-    program_look::look_fd(fd)
+// What an input is.
+pub fn look_input(rt: &HostRuntime, input: &OpenInput) -> Seen {
+    match input {
+        OpenInput::Standard => program_look::look_input(rt),
+        OpenInput::Named(file) => program_look::look_open(file),
+    }
 }
 
 // Why an output cannot replace a file of a kind, as a number; 0 where it can.
@@ -153,8 +285,8 @@ fn hindrance(kind: Kind) -> usize {
 }
 
 // Whether a value names a file that an output can replace, or none; where not, why.
-fn can_replace(program: &[u8], v: Value) -> bool {
-    let l = looked(v);
+fn can_replace(rt: &HostRuntime, program: &[u8], v: Value) -> bool {
+    let l = looked(rt, v);
     let kind = l.kind;
     let why = hindrance(kind);
     if why == 0 {
@@ -163,7 +295,7 @@ fn can_replace(program: &[u8], v: Value) -> bool {
     let mut p = [0u8; 8192];
     let a = messages::begin(&mut p, program);
     let b = text::words(&mut p, a, b"cannot write ");
-    let c = messages::value(&mut p, b, v);
+    let c = messages::value(rt, &mut p, b, v);
     let d = text::entry(
         &mut p,
         c,
@@ -177,14 +309,15 @@ fn can_replace(program: &[u8], v: Value) -> bool {
         why,
     );
     let e = text::words(&mut p, d, b"; nothing was written");
-    messages::tell(&mut p, e);
+    messages::tell(rt, &mut p, e);
     false
 }
 
 // Why a `.part` was not made.
-fn not_made(program: &[u8], v: Value, input: Seen, error: i32) {
-    if error != libc::EEXIST {
+fn not_made(rt: &HostRuntime, program: &[u8], v: Value, input: Seen, error: i32) {
+    if error != EEXIST {
         messages::failed(
+            rt,
             program,
             b"cannot make ",
             v,
@@ -194,9 +327,10 @@ fn not_made(program: &[u8], v: Value, input: Seen, error: i32) {
         );
         return;
     }
-    let l = looked_part(v);
+    let l = looked_part(rt, v);
     if is_same(l, input) {
         messages::with_value(
+            rt,
             program,
             b"the input is ",
             v,
@@ -205,6 +339,7 @@ fn not_made(program: &[u8], v: Value, input: Seen, error: i32) {
         return;
     }
     messages::with_value(
+        rt,
         program,
         b"",
         v,
@@ -213,68 +348,70 @@ fn not_made(program: &[u8], v: Value, input: Seen, error: i32) {
 }
 
 // Whether the input is a file that standard output writes to.
-fn is_output(input: Seen) -> bool {
-    let kind = input.kind;
-    match kind {
-        Kind::File => is_same(program_look::look_fd(STDOUT_FILENO), input),
-        Kind::Missing | Kind::Folder | Kind::Fifo | Kind::Device | Kind::Other | Kind::Hidden =>
-            false,
-    }
+fn is_output(rt: &HostRuntime, input: Seen) -> bool {
+    is_plain(input) && is_same(program_look::look_output(rt), input)
+}
+
+// A file that was not there.
+fn created(rt: &HostRuntime, name: &[u8]) -> Result<File> {
+    OpenOptions::new()
+        .write(true)
+        .create_new(true)
+        .open(rt, named(name)?)
 }
 
 // Makes the `.part` of a named output; standard output and no output are made as they are.
-pub fn made(program: &[u8], v: Value, input: Seen) -> Opened {
+pub fn made(rt: &HostRuntime, program: &[u8], v: Value, input: Seen) -> Opened {
     if v.is_standard() {
-        if is_output(input) {
+        if is_output(rt, input) {
             messages::plain(
+                rt,
                 program,
                 b"standard output is the input; nothing was written",
             );
             return Opened::NotMade;
         }
-        return Opened::Made(Output {
-            name: v,
-            fd: STDOUT_FILENO,
-            device: 0,
-            inode: 0,
-        });
+        return Opened::Made(Output::standing(v));
     }
     if !v.is_file() {
-        return Opened::Made(Output::NONE);
+        return Opened::Made(Output::none());
     }
-    if !can_replace(program, v) {
+    if !can_replace(rt, program, v) {
         return Opened::NotMade;
     }
     let mut name = io::buffer();
-    let n = part_name(v, &mut name);
+    let n = part_name(rt, v, &mut name);
     if n == 0 {
-        not_made(program, v, input, libc::ENAMETOOLONG);
+        not_made(rt, program, v, input, ENAMETOOLONG);
         return Opened::NotMade;
     }
-    let fd = os::create(&name[..n]);
-    if fd < 0 {
-        let error = os::errno();
-        not_made(program, v, input, error);
-        return Opened::NotMade;
+    match created(rt, &name[..n]) {
+        Err(e) => {
+            not_made(rt, program, v, input, messages::number_of(&e));
+            Opened::NotMade
+        }
+        Ok(file) => {
+            let l = program_look::look(rt, &name[..n]);
+            Opened::Made(Output {
+                name: v,
+                part: Some(file),
+                device: l.device,
+                inode: l.inode,
+            })
+        }
     }
-    let l = program_look::look(&name[..n]);
-    Opened::Made(Output {
-        name: v,
-        fd,
-        device: l.device,
-        inode: l.inode,
-    })
 }
 
 // Whether a value names the file of a made output, or its `.part`, or would be written as it; says so.
-pub fn clashes(program: &[u8], v: Value, o: Output) -> bool {
+pub fn clashes(rt: &HostRuntime, program: &[u8], v: Value, o: &Output) -> bool {
     let w = o.name;
     if !v.is_file() || !w.is_file() {
         return false;
     }
-    let l = looked(v);
+    let l = looked(rt, v);
     if is_part_of(l, o) {
         messages::with_both(
+            rt,
             program,
             v,
             b" is what ",
@@ -283,10 +420,11 @@ pub fn clashes(program: &[u8], v: Value, o: Output) -> bool {
         );
         return true;
     }
-    let part = looked_part(v);
-    let other = looked(w);
+    let part = looked_part(rt, v);
+    let other = looked(rt, w);
     if is_part_of(part, o) || is_same(l, other) {
         messages::with_both(
+            rt,
             program,
             v,
             b" and ",
@@ -299,13 +437,14 @@ pub fn clashes(program: &[u8], v: Value, o: Output) -> bool {
 }
 
 // Whether a value names the input; says so.
-pub fn is_input(program: &[u8], v: Value, input: Seen) -> bool {
+pub fn is_input(rt: &HostRuntime, program: &[u8], v: Value, input: Seen) -> bool {
     if !v.is_file() {
         return false;
     }
-    let l = looked(v);
+    let l = looked(rt, v);
     if is_same(l, input) {
         messages::with_value(
+            rt,
             program,
             b"",
             v,
@@ -317,61 +456,88 @@ pub fn is_input(program: &[u8], v: Value, input: Seen) -> bool {
 }
 
 // Takes away what was made.
-pub fn dropped(o: Output) {
+pub fn dropped(rt: &HostRuntime, o: Output) {
     let v = o.name;
+    drop(o);
     if !v.is_file() {
         return;
     }
-    libc::close(o.fd);
     let mut name = io::buffer();
-    let n = part_name(v, &mut name);
-    os::unlink(&name[..n]);
+    let n = part_name(rt, v, &mut name);
+    if let Ok(part) = named(&name[..n]) {
+        let _ = fs::remove_file(rt, part);
+    }
 }
 
-fn renamed(program: &[u8], v: Value) -> bool {
+// Gives a file another name.
+fn moved(rt: &HostRuntime, from: &[u8], to: &[u8]) -> Result<()> {
+    fs::rename(rt, named(from)?, named(to)?)
+}
+
+fn renamed(rt: &HostRuntime, program: &[u8], v: Value) -> bool {
     let mut part = io::buffer();
-    let n = part_name(v, &mut part);
+    let n = part_name(rt, v, &mut part);
     let mut name = io::buffer();
-    let k = arguments::text_of(v, &mut name);
-    if os::rename(&part[..n], &name[..k]) < 0 {
-        let error = os::errno();
-        messages::failed(
-            program,
-            b"",
-            v,
-            b".part is whole, and cannot be given its name",
-            error,
-            b"",
-        );
-        return false;
+    let k = arguments::text_of(rt, v, &mut name);
+    match moved(rt, &part[..n], &name[..k]) {
+        Ok(()) => true,
+        Err(e) => {
+            messages::failed(
+                rt,
+                program,
+                b"",
+                v,
+                b".part is whole, and cannot be given its name",
+                messages::number_of(&e),
+                b"",
+            );
+            false
+        }
     }
-    true
+}
+
+// Has the system bring what was written to its place, and closes it.
+fn closed(o: Output) -> Result<()> {
+    match &o.part {
+        Some(file) => file.sync_all(),
+        None => Ok(()),
+    }
 }
 
 // Closes an output that is whole and gives it its name. Answers whether it is there as it should be.
-pub fn whole(program: &[u8], o: Output) -> bool {
+pub fn whole(rt: &HostRuntime, program: &[u8], o: Output) -> bool {
     let v = o.name;
     if !v.is_file() {
         return true;
     }
-    if libc::close(o.fd) < 0 {
-        let error = os::errno();
-        messages::failed(program, b"writing ", v, b".part failed", error, b"");
-        return false;
+    match closed(o) {
+        Ok(()) => renamed(rt, program, v),
+        Err(e) => {
+            messages::failed(
+                rt,
+                program,
+                b"writing ",
+                v,
+                b".part failed",
+                messages::number_of(&e),
+                b"",
+            );
+            false
+        }
     }
-    renamed(program, v)
 }
 
 // Closes an output that is not whole, and says what is there.
-pub fn left(program: &[u8], o: Output) {
+pub fn left(rt: &HostRuntime, program: &[u8], o: Output) {
     let v = o.name;
+    drop(o);
     if !v.is_file() {
         return;
     }
-    libc::close(o.fd);
-    let old = looked(v);
+    let old = looked(rt, v);
     if is_there(old) {
         messages::with_both(
+            rt,
             program,
             v,
             b" is from before this run and was left as it is; what this run served is in ",
@@ -379,6 +545,6 @@ pub fn left(program: &[u8], o: Output) {
             b".part",
         );
     } else {
-        messages::with_value(program, b"what was served is in ", v, b".part");
+        messages::with_value(rt, program, b"what was served is in ", v, b".part");
     }
 }

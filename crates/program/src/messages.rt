@@ -1,7 +1,7 @@
 // What a program says: lines on standard error that start with its name.
 use crate::arguments::Value;
 use crate::{arguments, text};
-use libc::STDERR_FILENO;
+use std::io::Error;
 
 // The start of a line.
 pub fn begin(p: &mut [u8], program: &[u8]) -> usize {
@@ -10,58 +10,81 @@ pub fn begin(p: &mut [u8], program: &[u8]) -> usize {
 }
 
 // The end of a line, which is then written.
-pub fn tell(p: &mut [u8], at: usize) {
+pub fn tell(rt: &HostRuntime, p: &mut [u8], at: usize) {
     let end = text::words(p, at, b"\n");
-    text::send(STDERR_FILENO, p, end);
+    let _ = text::send(&mut rt.stderr(), p, end);
 }
 
 // A value's text.
-pub fn value(p: &mut [u8], start: usize, v: Value) -> usize {
+pub fn value(rt: &HostRuntime, p: &mut [u8], start: usize, v: Value) -> usize {
     let mut name = io::buffer();
-    let n = arguments::text_of(v, &mut name);
+    let n = arguments::text_of(rt, v, &mut name);
     text::words(p, start, &name[..n])
 }
 
 // A line of words.
-pub fn plain(program: &[u8], words: &[u8]) {
+pub fn plain(rt: &HostRuntime, program: &[u8], words: &[u8]) {
     let mut p = [0u8; 8192];
     let a = begin(&mut p, program);
     let b = text::words(&mut p, a, words);
-    tell(&mut p, b);
+    tell(rt, &mut p, b);
 }
 
 // A line with a value in it.
-pub fn with_value(program: &[u8], before: &[u8], v: Value, after: &[u8]) {
+pub fn with_value(rt: &HostRuntime, program: &[u8], before: &[u8], v: Value, after: &[u8]) {
     let mut p = [0u8; 8192];
     let a = begin(&mut p, program);
     let b = text::words(&mut p, a, before);
-    let c = value(&mut p, b, v);
+    let c = value(rt, &mut p, b, v);
     let d = text::words(&mut p, c, after);
-    tell(&mut p, d);
+    tell(rt, &mut p, d);
 }
 
 // A line with two values in it.
-pub fn with_both(program: &[u8], v: Value, between: &[u8], w: Value, after: &[u8]) {
+pub fn with_both(
+    rt: &HostRuntime,
+    program: &[u8],
+    v: Value,
+    between: &[u8],
+    w: Value,
+    after: &[u8],
+) {
     let mut p = [0u8; 8192];
     let a = begin(&mut p, program);
-    let b = value(&mut p, a, v);
+    let b = value(rt, &mut p, a, v);
     let c = text::words(&mut p, b, between);
-    let d = value(&mut p, c, w);
+    let d = value(rt, &mut p, c, w);
     let e = text::words(&mut p, d, after);
-    tell(&mut p, e);
+    tell(rt, &mut p, e);
 }
 
 // A line with a value in it, why something failed, and what follows from it.
-pub fn failed(program: &[u8], before: &[u8], v: Value, after: &[u8], error: i32, so: &[u8]) {
+pub fn failed(
+    rt: &HostRuntime,
+    program: &[u8],
+    before: &[u8],
+    v: Value,
+    after: &[u8],
+    error: i32,
+    so: &[u8],
+) {
     let mut p = [0u8; 8192];
     let a = begin(&mut p, program);
     let b = text::words(&mut p, a, before);
-    let c = value(&mut p, b, v);
+    let c = value(rt, &mut p, b, v);
     let d = text::words(&mut p, c, after);
     let e = text::words(&mut p, d, b": ");
     let f = reason(&mut p, e, error);
     let g = text::words(&mut p, f, so);
-    tell(&mut p, g);
+    tell(rt, &mut p, g);
+}
+
+// The system's number of an error; 0 where it has none.
+pub fn number_of(e: &Error) -> i32 {
+    match e.raw_os_error() {
+        Some(number) => number,
+        None => 0,
+    }
 }
 
 // An error of the system in words, of those that a file meets.
@@ -91,6 +114,7 @@ nobody reads the pipe
 the name is too long
 too many links lead on
 the quota is used up
+the name is no text in UTF-8
 for a reason that has no words here
 ",
         reason_number(error),
@@ -122,6 +146,7 @@ fn reason_number(error: i32) -> usize {
         36 => 19,
         40 => 20,
         122 => 21,
-        _ => 22,
+        84 => 22,
+        _ => 23,
     }
 }

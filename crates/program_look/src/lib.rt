@@ -1,24 +1,24 @@
-// What a path is: what C's stat says of it, as a kind, with the file's device and number.
+// What a path is: what std::fs says of it, as a kind, with the file's device and number.
 //
-// No contract here says what the file system holds, since C's stat promises nothing of the record
-// that it fills.
+// No contract here says what the file system holds, since none of std::fs does.
 #![tactic(auto)]
 
-ghost use Rattle.std.specs.Prelude.{◌≡◌, ◌<◌, length};
-ghost use Rattle.libc.specs.Io.{Ended};
-ghost use Rattle.program_look.specs.Path.{NoZero, Whole, Text};
+ghost use Rattle.std.specs.Prelude.{◌≡◌, IfSome, OnSome};
+ghost use Rattle.program_look.specs.Path.{Whole};
 
-use libc::PATH_MAX;
-use libc::types::{stat, timespec};
 use program_words::words::end_of;
+use std::fs::{File, FileType, Files, Metadata};
+use std::io::{ErrorKind, Result};
+use std::os::unix::fs::{FileTypeExt, MetadataExt};
 
-const LAST: usize = PATH_MAX - 1;
+// A path and the 0 behind it have at most as many bytes.
+const PATH_MAX: usize = 4096;
 
 // What stands at a path. A link stands for the file that it leads to, so a link to nowhere is
 // Missing. Device: of characters or of blocks. Other: a socket, and what has no kind of its own.
 // Hidden: it cannot be told, as where a folder of the path may not be searched, where a file stands
-// for a folder of the path, or where the path is none that C can be handed.
-#[derive(Drop)]
+// for a folder of the path, or where the path is none that the system can be handed.
+#[derive(Clone, Copy)]
 pub enum Kind {
     Missing,
     File,
@@ -31,54 +31,65 @@ pub enum Kind {
 
 // Two paths lead to one file where device and inode agree. Both are 0 where the kind is Missing or
 // Hidden.
-#[derive(Drop)]
+#[derive(Clone, Copy)]
 pub struct Seen {
     pub kind: Kind,
     pub device: u64,
     pub inode: u64,
 }
 
-// What C answered: status 0 and what is known of the file, or status -1.
-#[derive(Drop)]
-struct Filled {
-    status: i32,
-    of: stat,
-}
-
-// What stands at path. A path of 4096 bytes or more, or with a 0 in it, is Hidden.
-pub fn look(path: &[u8]) -> Seen
+// What stands at path. A path of 4096 bytes or more, with a 0 in it, or that is not UTF-8, is Hidden.
+pub fn look(files: &impl Files, path: &[u8]) -> Seen
     ensures { (Whole path.now → ⊥) → result.kind ≡ Kind.Hidden }
 {
+    match handed(path) {
+        Some(name) => seen_of(files.metadata(name)),
+        None => unseen(Kind::Hidden),
+    }
+}
+
+// What an open file is.
+pub fn look_open(file: &File) -> Seen {
+    seen_of(file.metadata())
+}
+
+// What standard input is open on.
+pub fn look_input(files: &impl Files) -> Seen {
+    seen_of(files.metadata("/proc/self/fd/0"))
+}
+
+// What standard output is open on.
+pub fn look_output(files: &impl Files) -> Seen {
+    seen_of(files.metadata("/proc/self/fd/1"))
+}
+
+// The path as text, all of it, where the system can be handed it with a 0 behind.
+fn handed(path: &[u8]) -> Option<&str>
+    ensures text { IfSome result (λ name. name.now ≡ path.now) }
+    ensures whole { OnSome result (Whole path.now) }
+{
     if path.len() >= PATH_MAX {
-        return unseen(Kind::Hidden);
+        return None;
     }
     if end_of(path, 0, 0) < path.len() {
-        return unseen(Kind::Hidden);
+        return None;
     }
-    let bytes = ended(path);
-    let filled = fill(&bytes, blank());
-    seen_of(filled)
+    str::from_utf8(path).ok()
 }
 
-// What the descriptor fd is open on.
-pub fn look_fd(fd: i32) -> Seen {
-    let filled = fill_fd(fd, blank());
-    seen_of(filled)
-}
-
-// It reads errno, so no other call of C's comes before it.
-fn seen_of(filled: Filled) -> Seen {
-    if filled.status != 0 {
-        if os::errno() == libc::ENOENT {
-            return unseen(Kind::Missing);
+fn seen_of(found: Result<Metadata>) -> Seen {
+    match found {
+        Ok(of) => Seen {
+            kind: kind_of(of.file_type()),
+            device: of.dev(),
+            inode: of.ino(),
+        },
+        Err(e) => {
+            if e.kind() == ErrorKind::NotFound {
+                return unseen(Kind::Missing);
+            }
+            unseen(Kind::Hidden)
         }
-        return unseen(Kind::Hidden);
-    }
-    let of = filled.of;
-    Seen {
-        kind: kind_of(of.st_mode),
-        device: of.st_dev,
-        inode: of.st_ino,
     }
 }
 
@@ -92,83 +103,18 @@ fn unseen(kind: Kind) -> Seen
     }
 }
 
-fn kind_of(mode: u32) -> Kind {
-    let bits = mode & libc::S_IFMT;
-    if bits == libc::S_IFREG {
+fn kind_of(found: FileType) -> Kind {
+    if found.is_file() {
         Kind::File
-    } else if bits == libc::S_IFDIR {
+    } else if found.is_dir() {
         Kind::Folder
-    } else if bits == libc::S_IFIFO {
+    } else if found.is_fifo() {
         Kind::Fifo
-    } else if bits == libc::S_IFCHR {
+    } else if found.is_char_device() {
         Kind::Device
-    } else if bits == libc::S_IFBLK {
+    } else if found.is_block_device() {
         Kind::Device
     } else {
         Kind::Other
     }
-}
-
-// C's stat, on a record of its own. The record is lent as `&mut`, so the proof is by hand.
-fn fill(path: &[u8; PATH_MAX], blank: stat) -> Filled
-    requires { Ended path.now }
-{
-    let mut of = blank;
-    let status = libc::stat(path, &mut of);
-    Filled {
-        status: status,
-        of: of,
-    }
-}
-
-// C's fstat, likewise.
-fn fill_fd(fd: i32, blank: stat) -> Filled {
-    let mut of = blank;
-    let status = libc::fstat(fd, &mut of);
-    Filled {
-        status: status,
-        of: of,
-    }
-}
-
-fn blank() -> stat {
-    let never = timespec {
-        tv_sec: 0,
-        tv_nsec: 0,
-    };
-    stat {
-        st_dev: 0,
-        st_ino: 0,
-        st_nlink: 0,
-        st_mode: 0,
-        st_uid: 0,
-        st_gid: 0,
-        __pad: 0,
-        st_rdev: 0,
-        st_size: 0,
-        st_blksize: 0,
-        st_blocks: 0,
-        st_atim: never,
-        st_mtim: never,
-        st_ctim: never,
-        __unused: [0; 3],
-    }
-}
-
-// All of path, and then zeros.
-fn ended(path: &[u8]) -> [u8; PATH_MAX]
-    requires { length path.now < 4096 }
-    ensures ended { Ended result }
-    ensures text { Text path.now result }
-{
-    let mut bytes = [0u8; PATH_MAX];
-    let n = path.len();
-    let mut i = 0;
-    while i < n {
-        bytes[i] = path[i];
-        i += 1;
-    }
-    bytes[n] = 0;
-    bytes[LAST] = 0;
-    bytes
 }

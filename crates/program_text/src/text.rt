@@ -3,6 +3,7 @@ ghost use Rattle.std.specs.Prelude.{[], ◌∷◌};
 ghost use Rattle.program_text.specs.Pages.{LaidAs, numeral, entry_of};
 
 use program_words::words::end_of;
+use std::io::{Error, ErrorKind, Result, Write};
 
 fn byte(p: &mut [u8], at: usize, b: u8) -> usize
     ensures { LaidAs p.old at (b ∷ []) p.new result }
@@ -162,9 +163,9 @@ pub fn float(p: &mut [u8], start: usize, x: f32) -> usize {
 }
 
 // Writes the first `used` bytes of a page.
-pub fn send(fd: i32, p: &[u8], used: usize) -> bool {
+pub fn send<W: Write>(to: &mut W, p: &[u8], used: usize) -> Result<()> {
     if used <= p.len() {
-        return io::write_all(fd, &p[..used]);
+        return to.write_all(&p[..used]);
     }
-    false
+    Err(Error::from(ErrorKind::InvalidInput))
 }

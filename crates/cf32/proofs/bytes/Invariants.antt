@@ -2,15 +2,12 @@
 use mathlib.Core.Path.{◌≡◌}
 use Prim.Native.Nat.{◌*◌, ◌≤◌, ◌-◌}
 use mathlib.Core.List.{◌++◌}
-use lib.ListN.{length, take, drop, length-set}
-use borrow.Author.Rules.{rules}
-use native.Mathlib.Omega.{arith}
+use lib.ListN.{length, take, drop}
 use Rattle.cf32.specs.Bytes.{write_over}
-use Rattle.cf32.proofs.Passes.{write-more, write-all}
 use Rattle.cf32.proofs.bytes.Given as goal
 
 abbrev pub invariant-loop-k : goal.invariant-loop-k
-invariant-loop-k l = (l.k ≤ l.n) × (length l.b ≡ length l.initial.l.b) × (write_over l.x l.initial.l.b ≡ take (4 * l.k) l.b ++ write_over (drop l.k l.x) (drop (4 * l.k) l.b))
+invariant-loop-k l = (l.k ≤ l.n) × (length l.b ≡ length l.initial.b) × (write_over l.x l.initial.b ≡ take (4 * l.k) l.b ++ write_over (drop l.k l.x) (drop (4 * l.k) l.b))
 
 abbrev pub decreases-loop-k : goal.decreases-loop-k
 decreases-loop-k l = l.n - l.k

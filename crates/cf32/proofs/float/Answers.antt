@@ -1,5 +1,4 @@
 -- `cf32::float` gives the float of a pattern: a NaN's gives the NaN, and any other is no NaN's. Assumes nothing.
-use borrow.Author.Rules.{rules}
 use Rattle.laws.specs.NoNan.{single_pattern}
 use Rattle.cf32.proofs.Words.{nan_read}
 use Rattle.cf32.proofs.float.Goals as goal

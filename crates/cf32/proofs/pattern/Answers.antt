@@ -1,5 +1,4 @@
 -- `cf32::pattern` gives the pattern of a float: the NaN's is written, and any other is no NaN. Assumes nothing.
-use borrow.Author.Rules.{rules}
 use Rattle.laws.specs.NoNan.{is_number}
 use Rattle.cf32.proofs.Words.{nan_written}
 use Rattle.cf32.proofs.pattern.Goals as goal

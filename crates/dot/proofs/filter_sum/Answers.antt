@@ -1,5 +1,4 @@
 -- `dot::filter_sum` meets its contract: the two parts are the definition's. Assumes nothing.
-use borrow.Author.Rules.{rules}
 use Rattle.definition.specs.Slices.{filter_sum}
 use Rattle.dot.proofs.filter_sum.Goals as goal
 

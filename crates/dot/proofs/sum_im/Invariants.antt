@@ -1,10 +1,8 @@
 -- `dot::sum_im` meets its contract: after the blocks the partial sums of i products. Assumes nothing.
-use Prim.Native.Nat.{◌+◌, ◌-◌, ◌%◌, ◌≤◌}
-use mathlib.Core.Path.{◌≡◌, ◌∙◌}
-use native.Mathlib.Omega.{arith}
-use borrow.Author.Rules.{rules}
+use Prim.Native.Nat.{◌-◌, ◌%◌, ◌≤◌}
+use mathlib.Core.Path.{◌≡◌}
 use Rattle.definition.specs.Slices.{prod_im}
-use Rattle.dot.proofs.Lanes.{Lanes, lanes_none, added_lanes, lanes_tree}
+use Rattle.dot.proofs.Lanes.{Lanes}
 use Rattle.dot.proofs.sum_im.Given as goal
 
 abbrev pub invariant-loop-i : goal.invariant-loop-i

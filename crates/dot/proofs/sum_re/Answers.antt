@@ -1,10 +1,9 @@
 -- `dot::sum_re` meets its contract: after the blocks the partial sums of i products. Assumes nothing.
-use Prim.Native.Nat.{◌+◌, ◌-◌, ◌%◌, ◌≤◌}
+use Prim.Native.Nat.{◌+◌, ◌-◌}
 use mathlib.Core.Path.{◌≡◌, ◌∙◌}
 use native.Mathlib.Omega.{arith}
 use borrow.Author.Rules.{rules}
-use Rattle.definition.specs.Slices.{prod_re}
-use Rattle.dot.proofs.Lanes.{Lanes, lanes_none, added_lanes, lanes_tree}
+use Rattle.dot.proofs.Lanes.{lanes_none, added_lanes, lanes_tree}
 use Rattle.dot.proofs.sum_re.Goals as goal
 
 pub loop-i-init : goal.loop-i-init
@@ -17,9 +16,6 @@ loop-i-preserved c =
 
 pub returns : goal.returns
 returns c =
-    let r = c.«TODO»before in
-    let l = r.before.before.before in
-    let v = l.loop.invariant in
-    let n = l.before.before.before.args.n in
-    let e : l.loop.i + (n - l.loop.i) ≡ n = omega arith in
-    c.dot_complex_tree.ensures ∙ lanes_tree _ _ (added_lanes _ _ _ v.1.1 v.1.0 (omega arith) r.rest-re.ensures) ∙ rw e
+    let v = c.loop-i.invariant in
+    let e : c.loop-i.i + (c.args.n - c.loop-i.i) ≡ c.args.n = omega arith in
+    c.dot_complex_tree.ensures ∙ lanes_tree _ _ (added_lanes _ _ _ v.1.1 v.1.0 (omega arith) c.rest_re.ensures) ∙ rw e
