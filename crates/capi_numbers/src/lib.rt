@@ -9,7 +9,7 @@ use types::{EqParams, EqualizeState, Equalized, Error, Fresh, Outcome};
 
 // The settings. Constellations: 0 BPSK, 1 QPSK, 2 8-PSK, 3 16-QAM, 4 64-QAM.
 #[repr(C)]
-#[derive(Drop)]
+#[derive(Clone, Copy)]
 pub struct EqSettings {
     pub phase_bw: f64,
     pub feedback_taps: usize,
@@ -21,7 +21,7 @@ pub struct EqSettings {
 
 // The record. Modes: 0 Cma, 1 Decision.
 #[repr(C)]
-#[derive(Drop)]
+#[derive(Clone, Copy)]
 pub struct EqRecord {
     pub settings: EqSettings,
     pub kp: f32,
@@ -35,7 +35,7 @@ pub struct EqRecord {
 
 // The record after a call, and the refusal's number with its two lengths; 0 is served.
 #[repr(C)]
-#[derive(Drop)]
+#[derive(Clone, Copy)]
 pub struct EqReply {
     pub record: EqRecord,
     pub number: u32,
@@ -44,6 +44,7 @@ pub struct EqReply {
 }
 
 // Whether the number of the constellation is known.
+#[tactic(auto, unfolding(crate::specs::RawRecord::known_settings))]
 pub fn known_settings(p: EqSettings) -> bool
     ensures { result ≡ known_settings p }
 {
@@ -129,6 +130,7 @@ pub fn record_out(s: EqualizeState) -> EqRecord
 }
 
 // What new replies with where it made none.
+#[tactic(auto, unfolding(crate::specs::RawRecord::no_record))]
 pub fn no_record() -> EqRecord
     ensures { result ≡ no_record }
 {
@@ -204,6 +206,7 @@ fn refused(state: EqRecord, e: Error) -> EqReply
 }
 
 // A reply that serves.
+#[tactic(auto, unfolding(crate::specs::RawRecord::replied))]
 pub fn served(state: EqRecord) -> EqReply
     ensures { result ≡ replied state (reply_of Outcome.Served) }
 {

@@ -7,7 +7,7 @@ ghost use Rattle.dot_checked.specs.Dot.{dot_def};
 use types::C32;
 
 // What dot_complex answers. Lengths are in complex numbers.
-#[derive(Drop)]
+#[derive(Clone, Copy)]
 pub enum DotComplex {
     Sum(C32),
     LengthMismatch { expected: usize, got: usize },

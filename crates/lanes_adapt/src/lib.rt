@@ -16,6 +16,7 @@ fn kept(v: f32, limit: f32) -> f32
 }
 
 // Whether r or m is not finite.
+#[tactic(auto, unfolding(crate::specs::Steps::uneven))]
 fn apart(r: f32, m: f32) -> bool
     ensures { result ≡ uneven r m }
 {
@@ -23,6 +24,7 @@ fn apart(r: f32, m: f32) -> bool
 }
 
 // The real part of a lane after the step.
+#[tactic(auto, unfolding(crate::specs::Steps::lane_re))]
 fn step_re(w: f32, l: f32, a: f32, b: f32, gr: f32, gi: f32) -> f32
     ensures { result ≡ lane_re w l a b gr gi }
 {
@@ -30,6 +32,7 @@ fn step_re(w: f32, l: f32, a: f32, b: f32, gr: f32, gi: f32) -> f32
 }
 
 // The imaginary part.
+#[tactic(auto, unfolding(crate::specs::Steps::lane_im))]
 fn step_im(w: f32, l: f32, a: f32, b: f32, gr: f32, gi: f32) -> f32
     ensures { result ≡ lane_im w l a b gr gi }
 {

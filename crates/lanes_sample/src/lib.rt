@@ -10,7 +10,7 @@ ghost use Rattle.lanes_sample.specs.Measures.{Measures};
 use types::C32;
 
 // The filter sum and the window's power.
-#[derive(Drop)]
+#[derive(Clone, Copy)]
 pub struct Measured {
     pub y: C32,
     pub power: f32,

@@ -15,7 +15,7 @@ use types::{C32, EqualizeState, Mark};
 
 // The numbers of a call: the lanes of the sums and of the steps, forward and feedback, the padding in front of the feedback lanes, the feedback taps
 // and the centre tap.
-#[derive(Drop)]
+#[derive(Clone, Copy)]
 pub struct Shape {
     pub lanes: usize,
     pub more: usize,

@@ -18,7 +18,7 @@ const MSE_ALPHA: f32 = 0.01;
 const CMA_CLIP: f32 = 1.0;
 
 // The running numbers that a heard sample changes.
-#[derive(Drop)]
+#[derive(Clone, Copy)]
 pub struct Track {
     pub mse: f32,
     pub freq: f32,
@@ -26,7 +26,7 @@ pub struct Track {
 }
 
 // What steps 4 to 7 give.
-#[derive(Drop)]
+#[derive(Clone, Copy)]
 pub struct Stepped {
     pub track: Track,
     pub z: C32,
@@ -35,7 +35,7 @@ pub struct Stepped {
 }
 
 // What step 8 starts from, beside the weights.
-#[derive(Drop)]
+#[derive(Clone, Copy)]
 pub struct Stage {
     pub track: Track,
     pub out: C32,
@@ -44,7 +44,7 @@ pub struct Stage {
 }
 
 // What a sample gives, and the record after it.
-#[derive(Drop)]
+#[derive(Clone, Copy)]
 pub struct Sampled {
     pub state: EqualizeState,
     pub out: C32,
@@ -52,7 +52,7 @@ pub struct Sampled {
 }
 
 // The error of the mode, and the sample to feed back.
-#[derive(Drop)]
+#[derive(Clone, Copy)]
 pub struct Aim {
     pub e: C32,
     pub fed: C32,

@@ -8,7 +8,7 @@ ghost use Rattle.types.specs.Start.{start_mode, start_state};
 
 // A complex sample: two f32, real part first.
 #[repr(C)]
-#[derive(Drop)]
+#[derive(Clone, Copy)]
 pub struct C32 {
     pub re: f32,
     pub im: f32,
@@ -16,7 +16,7 @@ pub struct C32 {
 
 // Cosine and sine of a phase.
 #[repr(C)]
-#[derive(Drop)]
+#[derive(Clone, Copy)]
 pub struct CosSin {
     pub c: f32,
     pub s: f32,
@@ -24,27 +24,27 @@ pub struct CosSin {
 
 // The gains of the phase tracker.
 #[repr(C)]
-#[derive(Drop)]
+#[derive(Clone, Copy)]
 pub struct LoopGains {
     pub kp: f32,
     pub ki: f32,
 }
 
 // A square QAM constellation.
-#[derive(Drop)]
+#[derive(Clone, Copy)]
 pub enum Qam {
     Qam16,
     Qam64,
 }
 
 // The adaptation mode: blind by the constant modulus, or against the nearest point.
-#[derive(Drop)]
+#[derive(Clone, Copy)]
 pub enum EqMode {
     Cma,
     Decision,
 }
 
-#[derive(Drop)]
+#[derive(Clone, Copy)]
 pub enum EqConstellation {
     Bpsk,
     Qpsk,
@@ -54,7 +54,7 @@ pub enum EqConstellation {
 }
 
 // The settings: the widest fields first, so that a copy has no padding to carry.
-#[derive(Drop)]
+#[derive(Clone, Copy)]
 pub struct EqParams {
     pub phase_bw: f64,
     pub feedback_taps: usize,
@@ -65,7 +65,7 @@ pub struct EqParams {
 }
 
 // The record: the settings and the running floats. Weights and window are lent beside it.
-#[derive(Drop)]
+#[derive(Clone, Copy)]
 pub struct EqualizeState {
     pub params: EqParams,
     pub kp: f32,
@@ -78,7 +78,7 @@ pub struct EqualizeState {
 }
 
 // Refusals 1 to 10, in this order. Lengths are in complex samples, of marks in bytes.
-#[derive(Drop)]
+#[derive(Clone, Copy)]
 pub enum Error {
     Odd,
     Feedback,
@@ -92,28 +92,28 @@ pub enum Error {
     Marks { expected: usize, got: usize },
 }
 
-#[derive(Drop)]
+#[derive(Clone, Copy)]
 pub enum Outcome {
     Served,
     Refused(Error),
 }
 
 // What equalizing, reset and the setters return: the record, and whether the call was served.
-#[derive(Drop)]
+#[derive(Clone, Copy)]
 pub struct Equalized {
     pub state: EqualizeState,
     pub outcome: Outcome,
 }
 
 // What new returns.
-#[derive(Drop)]
+#[derive(Clone, Copy)]
 pub enum Fresh {
     Made(EqualizeState),
     NotMade(Error),
 }
 
 // Whether a sample was heard: blank where it is not finite, spilled where it is finite and its filter sum is not.
-#[derive(Drop)]
+#[derive(Clone, Copy)]
 pub enum Mark {
     Heard,
     Blank,
@@ -121,7 +121,7 @@ pub enum Mark {
 }
 
 // The update of the weights: a step with two floats, or none.
-#[derive(Drop)]
+#[derive(Clone, Copy)]
 pub enum Update {
     Step(f32, f32),
     Hold,

@@ -1,0 +1,13 @@
+-- `dot::block_re` meets its contract: the loop has added k of the m products. Assumes nothing.
+use Prim.Native.Nat.{◌-◌, ◌≤◌}
+use mathlib.Core.Path.{◌≡◌}
+use lib.ListN.{length}
+use Rattle.definition.specs.Slices.{prod_re}
+use Rattle.dot.specs.Added.{Added}
+use Rattle.dot.proofs.block_re.Given as goal
+
+abbrev pub invariant-loop-k : goal.invariant-loop-k
+invariant-loop-k l = (l.k ≤ l.m) × ((length l.initial.a ≡ 8) × Added (prod_re l.x l.w) l.i l.k l.initial.a l.a)
+
+abbrev pub decreases-loop-k : goal.decreases-loop-k
+decreases-loop-k l = l.m - l.k
