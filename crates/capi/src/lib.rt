@@ -1,4 +1,4 @@
-// The equalizer for C and Rust: the record as numbers, by value. Slices cross as pointer and length.
+// The equalizer with the record as numbers, by value: what `capi_c` exports for C and Rust.
 #![tactic(auto)]
 
 ghost use Rattle.std.specs.Prelude.{◌≡◌};
@@ -8,48 +8,42 @@ ghost use Rattle.capi.specs.Raw.{block, eq_reference, eq_equalize, PromisedRaw};
 use capi_numbers::{EqRecord, EqReply, EqSettings, known_record, record_in, reply, unknown};
 
 // A new equalizer: weights and window are set. Refusals 1 to 8; the record is then all zeros.
-#[unsafe(no_mangle)]
-pub extern "C" fn eq_new(settings: EqSettings, weights: &mut [f32], window: &mut [f32]) -> EqReply
+pub fn eq_new(settings: EqSettings, weights: &mut [f32], window: &mut [f32]) -> EqReply
     ensures { filter result weights.new window.new ≡ new_raw settings weights.old window.old }
 {
     capi_state::new(settings, weights, window)
 }
 
 // Back to the start, with the settings and gains kept. Refusals 1 and 8.
-#[unsafe(no_mangle)]
-pub extern "C" fn eq_reset(raw: EqRecord, weights: &mut [f32], window: &mut [f32]) -> EqReply
+pub fn eq_reset(raw: EqRecord, weights: &mut [f32], window: &mut [f32]) -> EqReply
     ensures { filter result weights.new window.new ≡ reset_raw raw weights.old window.old }
 {
     capi_state::reset(raw, weights, window)
 }
 
 // Another step size for Cma. Refusals 5, and 8 for an unknown number.
-#[unsafe(no_mangle)]
-pub extern "C" fn eq_set_mu_cma(raw: EqRecord, mu: f32) -> EqReply
+pub fn eq_set_mu_cma(raw: EqRecord, mu: f32) -> EqReply
     ensures { result ≡ set_mu_cma_raw raw mu }
 {
     capi_state::set_mu_cma(raw, mu)
 }
 
 // Another step size for Decision. Refusals 6, and 8 for an unknown number.
-#[unsafe(no_mangle)]
-pub extern "C" fn eq_set_mu_dd(raw: EqRecord, mu: f32) -> EqReply
+pub fn eq_set_mu_dd(raw: EqRecord, mu: f32) -> EqReply
     ensures { result ≡ set_mu_dd_raw raw mu }
 {
     capi_state::set_mu_dd(raw, mu)
 }
 
 // The tracker's frequency from outside. Refusal 8 for an unknown number.
-#[unsafe(no_mangle)]
-pub extern "C" fn eq_set_frequency(raw: EqRecord, freq: f32) -> EqReply
+pub fn eq_set_frequency(raw: EqRecord, freq: f32) -> EqReply
     ensures { result ≡ set_frequency_raw raw freq }
 {
     capi_state::set_frequency(raw, freq)
 }
 
 // A block of samples: the quick path without feedback taps, the joint path with them. Same answer as `eq_reference`.
-#[unsafe(no_mangle)]
-pub extern "C" fn eq_equalize(
+pub fn eq_equalize(
     raw: EqRecord,
     weights: &mut [f32],
     window: &mut [f32],
@@ -72,8 +66,7 @@ pub extern "C" fn eq_equalize(
 }
 
 // A block of samples by the plain path. Refusals 1, 8, 9 and 10.
-#[unsafe(no_mangle)]
-pub extern "C" fn eq_reference(
+pub fn eq_reference(
     raw: EqRecord,
     weights: &mut [f32],
     window: &mut [f32],
