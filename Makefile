@@ -1,10 +1,9 @@
-# make: the program with its exit status and the library for C, all in build/. make install PREFIX=..: them, with the header, where a C user expects them.
+# make: the program and the library for C, all in build/. make install PREFIX=..: them, with the header, where a C user expects them.
 # make test: the gate. What is proved is what is built: rt proves a crate before it compiles it, and the first time takes some minutes.
 PREFIX = /usr/local
 CC = gcc
-CFLAGS = -O2 -Wall -Wextra
 VERSION = 0.1.0
-KIT = rattle-kit-5b-plain logic 097e4c862dff5811
+KIT = rattle-kit-13f logic dac8208d650f15bf
 
 ifneq ($(MAKECMDGOALS),clean)
 ifeq ($(shell command -v rt),)
@@ -12,30 +11,29 @@ $(error there is no rt on the path: this needs the Rattle toolchain whose `rt ve
 endif
 endif
 
-CRATES = $(shell find crates crates.txt -name '*.rt' -o -name '*.antt' -o -name crates.txt)
+CRATES = $(shell find crates crates.txt -name out -prune -o \( -name '*.rt' -o -name '*.antt' -o -name crates.txt \) -print)
 
 all: build/equalizer build/libequalizer.a build/libequalizer.so build/equalizer.pc
 
-# two rt at once can spoil each other's target/, so that make does one thing after another; rt itself proves two crates at a time
+# two rt at once in a tree wait for one another, so that make does one thing after another; rt itself uses a second core
 .NOTPARALLEL:
 
-build/proved: $(CRATES)
+# the functions that the static library capi_c exports
+build/libequalizer.a: $(CRATES)
 	@mkdir -p build
 	@echo 'each crate is proved before it is compiled: the first time takes some minutes'
-	rt check capi equalizer_status > build/proved.log 2>&1 || { tail -n 20 build/proved.log; false; }
-	touch $@
-
-build/libequalizer.a: build/proved
-	rt staticlib capi > build/capi.log 2>&1 || { tail -n 20 build/capi.log; false; }
-	cp target/staticlib/libcapi.a $@
+	(cd crates/capi_c && rt lib) > build/capi_c.log 2>&1 || { tail -n 20 build/capi_c.log; false; }
+	cp crates/capi_c/out/libcapi_c.a $@
 
 build/libequalizer.so: build/libequalizer.a
 	$(CC) -shared -Wl,-soname,libequalizer.so.0 -Wl,--whole-archive $< -Wl,--no-whole-archive -o $@
 
-# rt says which archive of the toolchain goes beside a crate that calls the system
-build/equalizer: program/main.c build/proved
-	rt staticlib equalizer_status > build/equalizer_status.log 2>&1 || { tail -n 20 build/equalizer_status.log; false; }
-	$(CC) $(CFLAGS) program/main.c target/staticlib/libequalizer_status.a "$$(sed -n 's/^rt: .*; link \(.*\) beside it$$/\1/p' build/equalizer_status.log)" -o $@
+# rt runs what it built, which here says its version
+build/equalizer: $(CRATES)
+	@mkdir -p build
+	@echo 'each crate is proved before it is compiled: the first time takes some minutes'
+	(cd crates/equalizer && rt run -- --version) > build/equalizer.log 2>&1 < /dev/null || { tail -n 20 build/equalizer.log; false; }
+	cp crates/equalizer/out/equalizer $@
 
 build/equalizer.pc: program/equalizer.pc.in Makefile
 	@mkdir -p build

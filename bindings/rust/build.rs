@@ -1,11 +1,11 @@
-//! Links the proved library. Its archive is libcapi.a where `rt staticlib capi` wrote it and
+//! Links the proved library. Its archive is libcapi_c.a where `rt lib` wrote it and
 //! libequalizer.a where `make` put it; either serves. It is looked for in the folder RATTLE_LIB, or
-//! else in target/staticlib and then in build, both at the top of the repository.
+//! else in crates/capi_c/out and then in build, both at the top of the repository.
 
 use std::env;
 use std::path::{Path, PathBuf};
 
-const NAMES: [&str; 2] = ["equalizer", "capi"];
+const NAMES: [&str; 2] = ["equalizer", "capi_c"];
 
 fn main() {
     println!("cargo::rerun-if-changed=build.rs");
@@ -13,7 +13,7 @@ fn main() {
     let top = Path::new(&env::var_os("CARGO_MANIFEST_DIR").unwrap()).join("../..");
     let folders = match env::var_os("RATTLE_LIB").filter(|f| !f.is_empty()) {
         Some(folder) => vec![PathBuf::from(folder)],
-        None => vec![top.join("target/staticlib"), top.join("build")],
+        None => vec![top.join("crates/capi_c/out"), top.join("build")],
     };
     for folder in folders.iter().flat_map(|f| f.canonicalize()) {
         for name in NAMES {
@@ -28,8 +28,8 @@ fn main() {
     }
     let folders: Vec<_> = folders.iter().map(|f| f.display().to_string()).collect();
     println!(
-        "cargo::error=no libequalizer.a or libcapi.a in {}: run `rt staticlib capi` or `make` at \
-         the top of the repository, or set RATTLE_LIB to the folder that holds one",
+        "cargo::error=no libequalizer.a or libcapi_c.a in {}: run `make` at the top of the repository, \
+         or `rt lib` in crates/capi_c, or set RATTLE_LIB to the folder that holds one",
         folders.join(" or ")
     );
 }

@@ -1,5 +1,5 @@
-/* An equalizer for QPSK with 11 taps, a short block with a gap in it, and a refusal. From the top of the repository, after rt staticlib capi:
- *   gcc -std=c11 -Wall -Wextra -O2 -Iinclude examples/c/main.c target/staticlib/libcapi.a -o target/example && target/example */
+/* An equalizer for QPSK with 11 taps, a short block with a gap in it, and a refusal. From the top of the repository, after make:
+ *   gcc -std=c11 -Wall -Wextra -O2 -Iinclude examples/c/main.c build/libequalizer.a -o build/example && build/example */
 #include <math.h>
 #include <stdio.h>
 

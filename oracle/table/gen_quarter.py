@@ -10,15 +10,15 @@ CRATE = os.path.join(HERE, "..", "..", "crates", "cosine_quarter")
 SOURCE = """\
 // The first quarter of the cosine table, entries 0 to 1023, as their bits, written by oracle/table/gen_quarter.py. Each part is a match on the index, which
 // the compiler turns into a read of a table in memory.
-ghost use mathlib.Core.Path.{_≡_};
-ghost use Prim.Native.Nat.{_+_, _<_};
-ghost use lib.ListN.{getD};
-ghost use Rattle·tables.specs.Table.{cosBits};
+#![tactic(auto)]
+
+ghost use Rattle.std.specs.Prelude.{◌≡◌, ◌+◌, ◌<◌, get_or};
+ghost use Rattle.tables.specs.Table.{cos_bits};
 
 // Entry k: entry k %% 64 of part k / 64.
 pub fn entry(k: usize) -> u32
-    requires { ⌜ k < 1024 ⌝ }
-    ensures { λ r. ⌜ r ≡ getD cosBits k 0 ⌝ }
+    requires { k < 1024 }
+    ensures { result ≡ get_or cos_bits k 0 }
 {
     let i = k %% 64;
     match k / 64 {
@@ -30,8 +30,8 @@ PART = """\
 
 // Entries %d to %d.
 fn part_%d(i: usize) -> u32
-    requires { ⌜ i < 64 ⌝ }
-    ensures { λ r. ⌜ r ≡ getD cosBits (%d + i) 0 ⌝ }
+    requires { i < 64 }
+    ensures { result ≡ get_or cos_bits (%d + i) 0 }
 {
     match i {
 %s    }
@@ -40,14 +40,14 @@ fn part_%d(i: usize) -> u32
 
 ENTRY_PROOF = """\
 -- `cosine_quarter::entry` gives entry k: 64 (k / 64) + k %% 64 is k. Assumes nothing.
-use borrow.Author.Needs.{needs}
-use mathlib.Core.Path.{_∙_}
-use Rattle·cosine_quarter·proofs.proofs.Keys.{split, split-last}
-use Rattle·cosine_quarter·proofs.proofs.entry.Statement.{statement}
-use Rattle·cosine_quarter·proofs.proofs.entry.Tie as tie
+use borrow.Author.Rules.{rules}
+use mathlib.Core.Path.{◌∙◌}
+use Rattle.cosine_quarter.proofs.Keys.{split, split_last}
+use Rattle.cosine_quarter.proofs.entry.Statement.{statement}
+use Rattle.cosine_quarter.proofs.entry.Tie as tie
 
-pub entry-spec : {M : Type 1} → statement M
-entry-spec =
+pub entry_spec : {M : Type 1} → statement M
+entry_spec =
     tie.close
     (tie.spec
 %s)
@@ -55,14 +55,14 @@ entry-spec =
 
 PART_PROOF = """\
 -- `cosine_quarter::part_%(n)d` gives entries %(first)d to %(last)d: each arm has the table's entry, by computation. Assumes nothing.
-use Rattle·tables.specs.Table.{cosBits}
-use Rattle·cosine_quarter·proofs.proofs.Keys.{key, last}
-use Rattle·cosine_quarter·proofs.proofs.part_%(n)d.Statement.{statement}
-use Rattle·cosine_quarter·proofs.proofs.part_%(n)d.Tie as tie
+use Rattle.tables.specs.Table.{cos_bits}
+use Rattle.cosine_quarter.proofs.Keys.{key, last}
+use Rattle.cosine_quarter.proofs.part_%(n)d.Statement.{statement}
+use Rattle.cosine_quarter.proofs.part_%(n)d.Tie as tie
 
-pub part-%(n)d-spec : {M : Type 1} → statement M
-unfolding cosBits
-part-%(n)d-spec =
+pub part_%(n)d_spec : {M : Type 1} → statement M
+unfolding cos_bits
+part_%(n)d_spec =
     tie.close
     (tie.spec
 %(arms)s)
@@ -86,17 +86,17 @@ with open(os.path.join(HERE, "cos_f32.txt")) as f:
     table = [line.strip() for line in f][: PARTS * ARMS]
 
 source = SOURCE % arms(["part_%d(i)" % n for n in range(PARTS)])
-answers = ["(λ c κs. search needs)"] * PARTS
+answers = ["(λ c κs. search rules)"] * PARTS
 for n in range(PARTS):
     base = n * ARMS
     source += PART % (base, base + ARMS - 1, n, base, arms(["0x" + w for w in table[base : base + ARMS]]))
-    shown = ["(λ c. key %d %d _ (c .match .keys%d))" % (base, k, k + 1) for k in range(ARMS - 1)]
-    shown.append("(λ c. last %d %d _ (c .before .pre) (c .match .rest))" % (base, ARMS - 1))
+    shown = ["(λ c. key %d %d _ c.in-%d.is)" % (base, k, k) for k in range(ARMS - 1)]
+    shown.append("(λ c. last %d %d _ c.before.requires c.in_default.in_default-own.rest)" % (base, ARMS - 1))
     write("proofs/part_%d/Proof.antt" % n,
           PART_PROOF % {"n": n, "first": base, "last": base + ARMS - 1, "arms": "\n".join("    " + a for a in shown)})
-    way = "split %d _ (c .before .match .keys%d)" % (n, n + 1)
+    way = "split %d _ c.before.in-%d.is" % (n, n)
     if n == PARTS - 1:
-        way = "split-last %d _ (c .before .before .pre) (c .before .match .rest)" % n
-    answers.append("(λ c. c .part-%d .ensures ∙ %s)" % (n, way))
+        way = "split_last %d _ c.before.before.requires c.before.in_default.in_default-own.rest" % n
+    answers.append("(λ c. c.part_%d.ensures ∙ %s)" % (n, way))
 write("src/lib.rt", source)
 write("proofs/entry/Proof.antt", ENTRY_PROOF % "\n".join("    " + a for a in answers))

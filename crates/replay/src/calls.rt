@@ -109,7 +109,7 @@ fn call(
 }
 
 // What two calls give.
-#[derive(Drop)]
+#[derive(Clone, Copy)]
 struct Both {
     first: Outcome,
     last: Equalized,

@@ -7,7 +7,7 @@ use crate::words::{Words, floats};
 use crate::{calls, others};
 use types::{C32, CosSin, EqConstellation, Qam};
 
-#[derive(Drop)]
+#[derive(Clone, Copy)]
 pub(crate) enum Leaf {
     IsFinite,
     FlushDenormal,
@@ -28,7 +28,7 @@ pub(crate) enum Leaf {
     Others,
 }
 
-#[derive(Drop)]
+#[derive(Clone, Copy)]
 pub(crate) enum Verdict {
     Same,
     Differs,

@@ -3,9 +3,11 @@
 use crate::leaves;
 use crate::leaves::{Leaf, Verdict};
 use crate::words::Words;
+use std::fs::File;
+use std::io::Read;
 
 // What was found so far.
-#[derive(Drop)]
+#[derive(Clone, Copy)]
 pub(crate) struct Tally {
     pub(crate) compared: u64,
     pub(crate) differ: u64,
@@ -23,7 +25,7 @@ impl Tally {
 
 // The place in a line: the word that is being read, how many digits it has, how many words stand before it,
 // and whether the line can no longer be in its form.
-#[derive(Drop)]
+#[derive(Clone, Copy)]
 struct Place {
     word: u64,
     digits: u32,
@@ -40,14 +42,14 @@ impl Place {
     };
 }
 
-#[derive(Drop)]
+#[derive(Clone, Copy)]
 struct Progress {
     place: Place,
     tally: Tally,
 }
 
 // A turn of the reading loop.
-#[derive(Drop)]
+#[derive(Clone, Copy)]
 enum Turn {
     More(Progress),
     End,
@@ -181,17 +183,18 @@ fn take_all(start: Progress, text: &[u8], leaf: Leaf, words: &mut Words) -> Prog
 }
 
 // Reads once, and takes what came.
-fn read_some(p: Progress, fd: i32, leaf: Leaf, words: &mut Words) -> Turn {
+fn read_some(p: Progress, file: &File, leaf: Leaf, words: &mut Words) -> Turn {
+    let mut from = file;
     let mut buf = io::buffer();
-    let got = libc::read(fd, &mut buf);
-    if got < 0 {
-        return Turn::Failed;
+    match from.read(&mut buf) {
+        Err(_) => Turn::Failed,
+        Ok(n) => {
+            if n == 0 {
+                return Turn::End;
+            }
+            Turn::More(take_all(p, &buf[..n], leaf, words))
+        }
     }
-    if got == 0 {
-        return Turn::End;
-    }
-    let n = io::count(got, &buf);
-    Turn::More(take_all(p, &buf[..n], leaf, words))
 }
 
 // Whether nothing of a line has been read yet.
@@ -213,7 +216,7 @@ fn at_end(p: Progress) -> Tally {
 
 // A proved loop has to end, and nothing says that a file does: the turns are counted down from a number that
 // no file uses up.
-pub(crate) fn read_all(fd: i32, leaf: Leaf) -> Tally {
+pub(crate) fn read_all(file: &File, leaf: Leaf) -> Tally {
     let mut words = [0u64; 18000];
     let mut p = Progress {
         place: Place::START,
@@ -221,7 +224,7 @@ pub(crate) fn read_all(fd: i32, leaf: Leaf) -> Tally {
     };
     let mut turns = 0xffff_ffff_ffff_ffffu64;
     while turns > 0 {
-        match read_some(p, fd, leaf, &mut words) {
+        match read_some(p, file, leaf, &mut words) {
             Turn::More(q) => p = q,
             Turn::End => return at_end(p),
             Turn::Failed => return with_malformed(p.tally),

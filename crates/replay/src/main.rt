@@ -14,68 +14,77 @@ mod words;
 
 use crate::leaves::Leaf;
 use crate::lines::Tally;
+use std::fs::File;
+use std::io::Result;
 
 // Replays one file, and adds what was found to a tally.
-fn replay(total: Tally, leaf: Leaf, name: &[u8], path: &[u8]) -> Tally {
-    let fd = os::open_read(path);
-    if fd < 0 {
-        report::unread(name);
-        return lines::with_malformed(total);
-    }
-    let found = lines::read_all(fd, leaf);
-    libc::close(fd);
-    report::found(name, found);
-    lines::sum(total, found)
+fn replay(rt: &HostRuntime, total: Tally, leaf: Leaf, name: &str, path: &str) -> Result<Tally> {
+    let Ok(file) = File::open(rt, path) else {
+        report::unread(rt, name)?;
+        return Ok(lines::with_malformed(total));
+    };
+    let found = lines::read_all(&file, leaf);
+    report::found(rt, name, found)?;
+    Ok(lines::sum(total, found))
 }
 
-fn numbers(start: Tally) -> Tally {
-    let a = replay(start, Leaf::IsFinite, b"is_finite", b"is_finite.txt");
+fn numbers(rt: &HostRuntime, start: Tally) -> Result<Tally> {
+    let a = replay(rt, start, Leaf::IsFinite, "is_finite", "is_finite.txt")?;
     let b = replay(
+        rt,
         a,
         Leaf::FlushDenormal,
-        b"flush_denormal",
-        b"flush_denormal.txt",
-    );
-    let c = replay(b, Leaf::Clip, b"clip", b"clip.txt");
-    replay(c, Leaf::Narrow, b"narrow", b"narrow.txt")
+        "flush_denormal",
+        "flush_denormal.txt",
+    )?;
+    let c = replay(rt, b, Leaf::Clip, "clip", "clip.txt")?;
+    replay(rt, c, Leaf::Narrow, "narrow", "narrow.txt")
 }
 
-fn carrier_loop(start: Tally) -> Tally {
-    let a = replay(start, Leaf::LoopGains, b"loop_gains", b"loop_gains.txt");
-    let b = replay(a, Leaf::PhaseStep, b"phase_step_f32", b"phase_step_f32.txt");
-    let c = replay(b, Leaf::Integrate, b"integrate", b"integrate.txt");
+fn carrier_loop(rt: &HostRuntime, start: Tally) -> Result<Tally> {
+    let a = replay(rt, start, Leaf::LoopGains, "loop_gains", "loop_gains.txt")?;
+    let b = replay(
+        rt,
+        a,
+        Leaf::PhaseStep,
+        "phase_step_f32",
+        "phase_step_f32.txt",
+    )?;
+    let c = replay(rt, b, Leaf::Integrate, "integrate", "integrate.txt")?;
     replay(
+        rt,
         c,
         Leaf::InterpPair,
-        b"interp_f32_pair",
-        b"interp_f32_pair.txt",
+        "interp_f32_pair",
+        "interp_f32_pair.txt",
     )
 }
 
-fn rotations(start: Tally) -> Tally {
-    let a = replay(start, Leaf::Derotate, b"derotate", b"derotate.txt");
-    replay(a, Leaf::Rotate, b"rotate", b"rotate.txt")
+fn rotations(rt: &HostRuntime, start: Tally) -> Result<Tally> {
+    let a = replay(rt, start, Leaf::Derotate, "derotate", "derotate.txt")?;
+    replay(rt, a, Leaf::Rotate, "rotate", "rotate.txt")
 }
 
-fn decisions(start: Tally) -> Tally {
+fn decisions(rt: &HostRuntime, start: Tally) -> Result<Tally> {
     let a = replay(
+        rt,
         start,
         Leaf::OctantPoint,
-        b"octant_point",
-        b"octant_point.txt",
-    );
-    let b = replay(a, Leaf::DecideLevel, b"decide_level", b"decide_level.txt");
-    let c = replay(b, Leaf::Decide, b"decide", b"decide.txt");
-    replay(c, Leaf::CmaR2, b"cma_r2", b"cma_r2.txt")
+        "octant_point",
+        "octant_point.txt",
+    )?;
+    let b = replay(rt, a, Leaf::DecideLevel, "decide_level", "decide_level.txt")?;
+    let c = replay(rt, b, Leaf::Decide, "decide", "decide.txt")?;
+    replay(rt, c, Leaf::CmaR2, "cma_r2", "cma_r2.txt")
 }
 
-fn main() {
-    let a = numbers(Tally::NONE);
-    let b = carrier_loop(a);
-    let c = rotations(b);
-    let d = decisions(c);
-    let e = replay(d, Leaf::DotComplex, b"dot_complex", b"dot_complex.txt");
-    let f = replay(e, Leaf::Calls, b"calls", b"calls.txt");
-    let g = replay(f, Leaf::Others, b"others", b"others.txt");
-    report::found(b"total", g);
+fn main(rt: HostRuntime) -> Result<()> {
+    let a = numbers(&rt, Tally::NONE)?;
+    let b = carrier_loop(&rt, a)?;
+    let c = rotations(&rt, b)?;
+    let d = decisions(&rt, c)?;
+    let e = replay(&rt, d, Leaf::DotComplex, "dot_complex", "dot_complex.txt")?;
+    let f = replay(&rt, e, Leaf::Calls, "calls", "calls.txt")?;
+    let g = replay(&rt, f, Leaf::Others, "others", "others.txt")?;
+    report::found(&rt, "total", g)
 }

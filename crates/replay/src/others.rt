@@ -76,7 +76,7 @@ fn operate_on(
     operate(operation, s, x, &mut weights[..a], &mut window[..b])
 }
 
-#[derive(Drop)]
+#[derive(Clone, Copy)]
 struct Lengths {
     expected: usize,
     got: usize,

@@ -6,14 +6,14 @@ use crate::patterns::{double, same, same_double, single, whole};
 use crate::words::{Floats, Words, same_floats};
 use types::{EqConstellation, EqParams, EqualizeState};
 
-#[derive(Drop)]
+#[derive(Clone, Copy)]
 pub(crate) enum Found {
     Record(EqualizeState),
     Nothing,
 }
 
 // A constellation goes by its number.
-#[derive(Drop)]
+#[derive(Clone, Copy)]
 pub(crate) enum Numbered {
     Known(EqConstellation),
     Unknown,

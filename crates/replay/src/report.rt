@@ -1,30 +1,15 @@
 // What the program writes.
 use crate::lines::Tally;
-use libc::STDOUT_FILENO;
+use std::io::Result;
 
-fn text(t: &[u8]) {
-    io::write_all(STDOUT_FILENO, t);
+pub(crate) fn unread(rt: &HostRuntime, name: &str) -> Result<()> {
+    println!(rt; "{name}: cannot read")
 }
 
-// A number and what it counts.
-fn count(n: u64, what: &[u8]) {
-    io::print_decimal(STDOUT_FILENO, n);
-    text(what);
-}
-
-pub(crate) fn unread(name: &[u8]) {
-    text(name);
-    text(b": cannot read\n");
-}
-
-pub(crate) fn found(name: &[u8], t: Tally) {
-    text(name);
-    text(b": ");
-    count(t.compared, b" compared, ");
-    count(t.differ, b" differ");
-    if t.malformed > 0 {
-        text(b", ");
-        count(t.malformed, b" malformed");
+pub(crate) fn found(rt: &HostRuntime, name: &str, t: Tally) -> Result<()> {
+    let (compared, differ, malformed) = (t.compared, t.differ, t.malformed);
+    if malformed > 0 {
+        return println!(rt; "{name}: {compared} compared, {differ} differ, {malformed} malformed");
     }
-    text(b"\n");
+    println!(rt; "{name}: {compared} compared, {differ} differ")
 }

@@ -1,0 +1,15 @@
+-- `sample` is steps 2 to 8 of a sample on the arrays: `take`, the feedback and the mode, joined by `sampled`.
+use Rattle.run_samples.proofs.OneSample.{sampled, track_r4}
+use Rattle.run_samples.proofs.sample.Goals as goal
+
+pub advance-state-requires : goal.advance-state-requires
+advance-state-requires c =
+    let asked = c.requires in
+    track_r4 _ _ _ asked.s_value c.with_track.ensures
+
+pub returns : goal.returns
+returns c =
+    let at-feed = c.feed in
+    let at_take = c.take-r in
+    let asked = c.requires in
+    sampled _ _ _ _ _ _ _ _ _ _ _ _ _ _ _ _ _ _ _ _ asked.at_bound.0 asked.s_value at_take.ensures at-feed.ensures.xr_after at-feed.ensures.xi_after at-feed.ensures.q_after c.with_track.ensures c.advance-state.ensures
