@@ -1,5 +1,5 @@
 -- One run more of a block: its part of output and marks goes behind what the runs before have written. Assumes nothing.
-use Prim.Native.Nat.{ℕ, ◌+◌, ◌*◌, ◌-◌, ◌%◌, ◌≤◌}
+use Prim.Native.Nat.{ℕ, ◌*◌, ◌-◌, ◌%◌, ◌≤◌}
 use mathlib.Core.Path.{◌≡◌, refl, sym, ◌∙◌, ap, subst}
 use mathlib.Core.List.{List, [], ◌∷◌, ◌++◌, append_assoc}
 use native.Mathlib.Omega.{arith}
@@ -11,7 +11,7 @@ use lib.Ieee.{Float}
 use Rattle.types.specs.declared.C32.{C32}
 use Rattle.definition.specs.Floats.{complex}
 use Rattle.definition.specs.Slices.{samples_of}
-use Rattle.definition.specs.Packed.{equalizer, Ran}
+use Rattle.definition.specs.Packed.{Ran}
 use Rattle.definition.specs.Sample.{Equalizer}
 use Rattle.definition.specs.Rules.{accepted_def}
 use Rattle.definition.specs.Run.{Run, ahead, run_def, symbol_parts, mark_byte}

@@ -1,0 +1,14 @@
+-- `linear_state` gives the definition's outcome of a block: load, all runs and store, joined by `call_is`.
+use Rattle.run_block.proofs.Call.{asked-shape, asked-long, asked-r4}
+use Rattle.run_block.proofs.linear_state.Goals as goal
+
+pub shape_of-g-requires : goal.shape_of-g-requires
+shape_of-g-requires c =
+    let asked = c.requires in
+    asked-shape _ _ _ _ _ _ _ _ asked.asked
+
+pub load_linear-requires-clause-weights_len : goal.load_linear-requires-clause-weights_len
+load_linear-requires-clause-weights_len c = asked-long _ _ _ _ _ _ _ _ c.requires.asked
+
+pub linear_runs-s-requires-clause-state_value : goal.linear_runs-s-requires-clause-state_value
+linear_runs-s-requires-clause-state_value c = asked-r4 _ _ _ _ _ _ _ _ c.requires.asked

@@ -1,0 +1,8 @@
+-- `run` passes over the samples i .. e of a block: start, samples and end of one run, joined by `whole_run`.
+use Rattle.run_one.proofs.Start.{whole_run}
+use Rattle.run_one.proofs.run.Goals as goal
+
+pub returns-clause-whole_run : goal.returns-clause-whole_run
+returns-clause-whole_run c =
+    let asked = c.requires in
+    whole_run _ _ _ _ _ _ _ _ _ _ _ _ _ _ _ _ _ _ _ _ _ _ _ _ _ _ asked.i_le_e.0 asked.i_le_e.1.0 asked.i_le_e.1.1 asked.input_len.0 asked.n_bound.0 asked.n_bound.1 asked.long c.prepare_run.ensures.prepared c.run-r.ensures c.finish_run.ensures
