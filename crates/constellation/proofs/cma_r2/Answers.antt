@@ -1,5 +1,4 @@
 -- `cma_r2` gives R2: the constants are the definition's fractions rounded.
-use borrow.Author.Rules.{rules}
 use Rattle.constellation.proofs.Radius.{radius_is}
 use Rattle.constellation.proofs.cma_r2.Goals as goal
 

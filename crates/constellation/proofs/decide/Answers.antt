@@ -1,5 +1,4 @@
 -- `decide` gives the definition's point: one law for each constellation.
-use borrow.Author.Rules.{rules}
 use Rattle.definition.specs.Points.{decide}
 use Rattle.constellation.proofs.decide.Goals as goal
 

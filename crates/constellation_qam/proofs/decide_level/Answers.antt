@@ -1,5 +1,4 @@
 -- `decide_level` is the floor held to the levels, for both grids.
-use borrow.Author.Rules.{rules}
 use Rattle.definition.specs.Points.{level_of}
 use Rattle.constellation_qam.proofs.Levels.{level_of_lem}
 use Rattle.constellation_qam.proofs.decide_level.Goals as goal

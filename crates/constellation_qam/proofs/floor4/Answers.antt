@@ -1,5 +1,4 @@
 -- `floor4` is the floor held to 0 .. 3, by comparisons.
-use borrow.Author.Rules.{rules}
 use Prim.Native.Nat.{ℕ}
 use Rattle.constellation_qam.proofs.Levels.{picked4}
 use Rattle.constellation_qam.proofs.floor4.Goals as goal

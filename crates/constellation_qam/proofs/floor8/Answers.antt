@@ -1,5 +1,4 @@
 -- `floor8` is the floor held to 0 .. 7, by comparisons.
-use borrow.Author.Rules.{rules}
 use Prim.Native.Nat.{ℕ}
 use Rattle.constellation_qam.proofs.Levels.{picked8}
 use Rattle.constellation_qam.proofs.floor8.Goals as goal

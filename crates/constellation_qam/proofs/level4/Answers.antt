@@ -1,5 +1,4 @@
 -- `level4` picks the level by comparisons: it is the table's at the definition's index.
-use borrow.Author.Rules.{rules}
 use Prim.Native.Nat.{ℕ}
 use lib.ListN.{get_or}
 use lib.Ieee.{nan}

@@ -1,5 +1,4 @@
 -- `point16` is the level of each part.
-use borrow.Author.Rules.{rules}
 use Rattle.definition.specs.Points.{qam_point}
 use Rattle.constellation_qam.proofs.point16.Goals as goal
 

@@ -1,5 +1,4 @@
 -- `integrate` is flush, then clip: by its one test, or by the two functions.
-use borrow.Author.Rules.{rules}
 use Rattle.costas.proofs.Sizes.{kept}
 use Rattle.costas.proofs.integrate.Goals as goal
 

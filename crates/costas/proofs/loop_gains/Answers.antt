@@ -1,5 +1,4 @@
 -- `loop_gains` gives the definition's gains: the same operations of f64, then `narrow`.
-use borrow.Author.Rules.{rules}
 use Rattle.definition.specs.Gains.{loop_gains, gain_kp, gain_ki, theta, divisor}
 use Rattle.costas.proofs.loop_gains.Goals as goal
 

@@ -1,5 +1,4 @@
 -- `octant` counts the octants by three tests, as the definition does.
-use borrow.Author.Rules.{rules}
 use Rattle.costas.proofs.Octants.{octant-is}
 use Rattle.costas.proofs.octant.Goals as goal
 

@@ -1,6 +1,6 @@
 -- `costas::magnitude` meets its contract. Assumes nothing.
 use Rattle.std.proofs.Common.{rules}
-use Rattle.costas_step.proofs.Steps.{far, whole, part, part-fits, sum_fits, no_borrow}
+use Rattle.costas_step.proofs.Steps.{far, whole, part}
 use Rattle.costas_step.proofs.magnitude.Goals as goal
 
 pub returns-then-exp-le140 : goal.returns-then-exp-le140

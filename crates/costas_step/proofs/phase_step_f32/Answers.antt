@@ -1,6 +1,6 @@
 -- `costas::phase_step_f32` meets its contract. Assumes nothing.
-use Rattle.std.proofs.Common.{◌≡◌, not, T, sym, ap, subst, rules}
-use lib.Ieee.{Float, nan, binary32, fits, is_nan, to_bits}
+use Rattle.std.proofs.Common.{◌≡◌, T, sym, ap, subst}
+use lib.Ieee.{Float, nan, binary32, to_bits}
 use lib.Ieee.Compare.{differs_from_itself}
 use Rattle.laws.specs.Order.{is_number}
 use Rattle.definition.specs.Phase.{phase_step, step_int}

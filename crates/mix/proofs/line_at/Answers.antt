@@ -1,5 +1,4 @@
 -- `mix::line_at` meets its contract: both entries are the table's. Assumes nothing.
-use borrow.Author.Rules.{rules}
 use Rattle.definition.specs.Phase.{line_at}
 use Rattle.mix.proofs.line_at.Goals as goal
 

@@ -1,7 +1,6 @@
 -- `mix::low_part` meets its contract: the mask keeps the low 20 bits. Assumes nothing.
 use lib.Bits.{and_mask}
 use Rattle.definition.specs.Phase.{low_part}
-use Rattle.mix.proofs.Pair.{low_fits}
 use Rattle.mix.proofs.low_part.Goals as goal
 
 pub returns : goal.returns

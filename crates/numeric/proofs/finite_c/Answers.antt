@@ -1,5 +1,4 @@
 -- `numeric::finite_c` says whether both parts are finite: it tests each. Assumes nothing.
-use borrow.Author.Rules.{rules}
 use Rattle.definition.specs.Floats.{finite_c}
 use Rattle.numeric.proofs.finite_c.Goals as goal
 

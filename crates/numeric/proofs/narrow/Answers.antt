@@ -1,14 +1,13 @@
 -- `numeric::narrow` meets its contract: each answer is one of the four of `narrows`. Assumes nothing.
 use mathlib.Core.Path.{sym, ap, subst, ◌∙◌}
-use mathlib.Core.Bool.{cond, not}
+use mathlib.Core.Bool.{cond}
 use Prim.Native.Nat.{ℕ, ◌+◌, ◌-◌, ◌*◌, ◌/◌, ◌^◌, ◌≤◌, ◌<◌}
 use native.Mathlib.Nat.{zero-add, le_trans, le_of_eq}
 use native.Mathlib.Omega.{arith}
 use lib.Dec.{T, leb, lit≤}
-use lib.Ieee.{Float, binary32, binary64, fits, is_nan, of_bits, to_bits}
+use lib.Ieee.{Float, binary32, binary64, of_bits, to_bits}
 use lib.Bits.{bit_and}
 use lib.Ieee.Compare.{differs_from_itself}
-use borrow.Author.Rules.{rules}
 use Rattle.laws.specs.Order.{is_number}
 use Rattle.laws.specs.Units.{inf_is}
 use Rattle.numeric.proofs.Narrowing.{narrows, normal_le, low_le, sig_lt}

@@ -1,6 +1,5 @@
 -- `numeric::with_sign` meets its contract. Assumes nothing.
-use borrow.Author.Rules.{rules}
-use Rattle.numeric.proofs.Digits.{plain_ok, signed-ok, signed-fits, plain-is, signed_is}
+use Rattle.numeric.proofs.Digits.{plain_ok, signed-ok}
 use Rattle.numeric.proofs.with_sign.Goals as goal
 
 pub float_from_bits-result : goal.float_from_bits-result
