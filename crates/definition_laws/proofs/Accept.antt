@@ -1,5 +1,5 @@
 -- The record rules as a record of facts, and what a sample leaves alone. Assumes nothing.
-use Prim.Native.Nat.{◌-◌, ◌%◌, ◌≤◌}
+use Prim.Native.Nat.{◌%◌, ◌≤◌}
 use mathlib.Core.Path.{◌≡◌, refl, sym, ◌∙◌, ap, subst}
 use mathlib.Core.Bool.{◌&&◌}
 use native.Mathlib.Omega.{arith}

@@ -10,7 +10,7 @@ use lib.IntN.{pos}
 use lib.Count.{count_trailing_zeros}
 use lib.ListN.{length, get_or, get_or-eq_default}
 use lib.Dec.{T, leb, eqb, leb→le, lit≤}
-use lib.Ieee.{Float, nan, inf, fin, binary32, up, down, of_bits, of_fields, odd, neg, lt, le, of_int}
+use lib.Ieee.{Float, nan, inf, fin, binary32, up, down, of_bits, of_fields, odd, neg, lt, of_int}
 use lib.Ieee.Scale.{finite}
 use Rattle.laws.specs.Bound.{AtMost, Within, round_at_most, mul_at_most, within_add, within_sub, within_mul, within_mono, within_neg, power_held, at_most_finite, le_or_lt}
 use Rattle.tables.specs.Table.{cos_at, cos_bits}

@@ -1,5 +1,4 @@
 -- `aim_of` gives the error and the fed-back sample of the mode: one law for each.
-use Rattle.std.proofs.Common.{rules}
 use Rattle.steps.proofs.Exits.{aim-cma, aim-decision}
 use Rattle.steps.proofs.aim_of.Goals as goal
 

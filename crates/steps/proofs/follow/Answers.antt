@@ -1,5 +1,5 @@
 -- `follow` is steps 4 to 7 with the cosine and sine of the record's phase: its calls, joined by `step_is`.
-use Rattle.std.proofs.Common.{ap, ◌∙◌, rules}
+use Rattle.std.proofs.Common.{ap, ◌∙◌}
 use Rattle.types.specs.declared.CosSin.{CosSin}
 use Rattle.steps.specs.Step.{step_with, step_of}
 use Rattle.steps.proofs.Exits.{step_is}

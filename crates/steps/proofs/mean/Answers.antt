@@ -1,5 +1,4 @@
 -- `mean` renews the mean error where the error power is finite.
-use Rattle.std.proofs.Common.{rules}
 use Rattle.steps.proofs.Exits.{mean-yes, mean-no}
 use Rattle.steps.proofs.mean.Goals as goal
 

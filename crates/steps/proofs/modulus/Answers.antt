@@ -1,5 +1,4 @@
 -- `modulus` is Godard's error, clipped by parts.
-use Rattle.std.proofs.Common.{rules}
 use Rattle.definition.specs.Floats.{clip_c}
 use Rattle.definition.specs.Sample.{godard_error}
 use Rattle.steps.proofs.modulus.Goals as goal

@@ -1,5 +1,4 @@
 -- `size_of` divides the mode's mu by the window power.
-use Rattle.std.proofs.Common.{rules}
 use Rattle.steps.proofs.Exits.{size-cma, size-decision}
 use Rattle.steps.proofs.size_of.Goals as goal
 

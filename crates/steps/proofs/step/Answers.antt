@@ -1,5 +1,4 @@
 -- `step` is steps 4 to 7 with c and s: its calls, joined by `step_is`.
-use Rattle.std.proofs.Common.{rules}
 use Rattle.steps.proofs.Exits.{step_is}
 use Rattle.steps.proofs.step.Goals as goal
 

@@ -1,5 +1,4 @@
 -- `tracked` gives the running numbers of steps 4 and 7: one law for a finite detector value, one for another.
-use Rattle.std.proofs.Common.{rules}
 use Rattle.steps.proofs.Exits.{tracked-yes, tracked-no}
 use Rattle.steps.proofs.tracked.Goals as goal
 

@@ -1,5 +1,4 @@
 -- `update_of` gives a step where the window is live and both parts are finite, and none else.
-use Rattle.std.proofs.Common.{rules}
 use Rattle.steps.proofs.Exits.{update-yes, update-no}
 use Rattle.steps.proofs.update_of.Goals as goal
 
