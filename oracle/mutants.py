@@ -3,8 +3,7 @@
 
 usage: oracle/mutants.py [NAME ...]     NAME is a file of crates/definition/specs, as Sample; without one, all that define something
 
-Each change is put into a copy of the crate `definition` and of what it uses, and proved there: 3 seconds each, half an hour for all on two
-processors. One that is proved is printed: a row is missing, or it says the same as before. Those that say the same are listed below. A change
+Each change is put into a copy of the crate `definition` and of what it uses, and proved there: some ten seconds each, hours for all. One that is proved is printed: a row is missing, or it says the same as before. Those that say the same are listed below. A change
 that is refused because it makes no sense (a wrong type, a name that is not there) counts as noticed. Ends with status 1 if anything was printed.
 """
 import os
@@ -24,34 +23,34 @@ FILES = "Floats Slices Gains Phase Points Turns Sample Rules Run Calls Refusals"
 # line, and what stands in its place: the same value, whatever is put in
 SAME = {
     # products and sums commute
-    "filterSum n h w = complex (sum8 (prodRe h w) n) (sum8 (prodIm h w) n)": ["filterSum n h w = complex (sum8 (prodRe w h) n) (sum8 (prodIm h w) n)"],
+    "filter_sum n h w = complex (sum8 (prod_re h w) n) (sum8 (prod_im h w) n)": ["filter_sum n h w = complex (sum8 (prod_re w h) n) (sum8 (prod_im h w) n)"],
     # the table has (1, +0) at phase 0
-    "cosSin p = cond (eqb p 0) (record { c = one32; s = zero32 }) (interpPair p)": ["cosSin p = (interpPair p)"],
+    "cos_sin p = cond (eqb p 0) (record { c = one32; s = zero32 }) (interp_pair p)": ["cos_sin p = (interp_pair p)"],
     # the last case is 0 too; what these let in has been taken by a case before
-    "cond (lt zero32 (y .re) && le zero32 (y .im)) (cond wide 0 1)": ["cond (lt zero32 (y .re) && lt zero32 (y .im)) (cond wide 0 1)"],
-    "(cond (le (y .re) zero32 && lt zero32 (y .im)) (cond tall 2 3)": ["(cond (le (y .re) one32 && lt zero32 (y .im)) (cond tall 2 3)"],
-    "(cond (lt (y .re) zero32 && le (y .im) zero32) (cond wide 4 5)": ["(cond (lt (y .re) zero32 && le (y .im) one32) (cond wide 4 5)"],
+    "cond (lt zero32 y.re && le zero32 y.im) (cond wide 0 1)": ["cond (lt zero32 y.re && lt zero32 y.im) (cond wide 0 1)"],
+    "(cond (le y.re zero32 && lt zero32 y.im) (cond tall 2 3)": ["(cond (le y.re one32 && lt zero32 y.im) (cond tall 2 3)"],
+    "(cond (lt y.re zero32 && le y.im zero32) (cond wide 4 5)": ["(cond (lt y.re zero32 && le y.im one32) (cond wide 4 5)"],
     # 2 and 64 are even
-    "tapsFit n = eqb (n % 2) 1 && leb 3 n && leb n 63": [
-        "tapsFit n = eqb (n % 2) 1 && leb 2 n && leb n 63",
-        "tapsFit n = eqb (n % 2) 1 && leb 3 n && leb n 64",
+    "taps_fit n = eqb (n % 2) 1 && leb 3 n && leb n 63": [
+        "taps_fit n = eqb (n % 2) 1 && leb 2 n && leb n 63",
+        "taps_fit n = eqb (n % 2) 1 && leb 3 n && leb n 64",
     ],
     # test 4 has passed: the lengths are equal
-    "let q = startOver (freshState p) (length w / 2) in": ["let q = startOver (freshState p) (length h / 2) in"],
+    "let q = start_over (fresh_state p) (length w / 2) in": ["let q = start_over (fresh_state p) (length h / 2) in"],
     # and so has test 9
-    "∷ test (eqb (l .marks) (l .input / 2)) (Marks (l .input / 2) (l .marks))": [
-        "∷ test (eqb (l .marks) (l .output / 2)) (Marks (l .input / 2) (l .marks))",
-        "∷ test (eqb (l .marks) (l .input / 2)) (Marks (l .output / 2) (l .marks))",
+    "∷ test (eqb l.marks (l.input / 2)) (Marks (l.input / 2) l.marks)": [
+        "∷ test (eqb l.marks (l.output / 2)) (Marks (l.input / 2) l.marks)",
+        "∷ test (eqb l.marks (l.input / 2)) (Marks (l.output / 2) l.marks)",
     ],
 }
 
 # what a word becomes: each of a pair the other, or the first of a pair the second
 EACH = """
-+f -f, +d *d, /f *f, /d *d, && ||, .re .im, .c .s, .weights .window, .kp .ki, .«mu_cma» .«mu_dd», .input .output, .z .d, .F .P, reAt imAt, lt le, leb ltb, true false,
-zero32 one32, Cma Decision, take drop, Blank Spilled, wide tall, C8 S8, min max, up down, prodRe prodIm, newRe newIm, forward feedback, one64 two64, tau four64,
-bwMin bwMax, nlmsEps mseAlpha, n f, w h, x y, a b, expected got"""
++f -f, +d *d, /f *f, /d *d, && ||, .re .im, .c .s, .weights .window, .kp .ki, .mu_cma .mu_dd, .input .output, .z .d, .F .P, re_at im_at, lt le, leb ltb, true false,
+zero32 one32, Cma Decision, take drop, Blank Spilled, wide tall, C8 S8, min max, up down, prod_re prod_im, new_re new_im, forward feedback, one64 two64, tau four64,
+bw_min bw_max, nlms_eps mse_alpha, n f, w h, x y, a b, expected got"""
 FIRST = """
-*f +f, .marks .output, .count .phase, Spilled Heard, Blank Heard, Heard Blank, forward allTaps, two64 four64, four64 two64, muMin tiny, maxFreq one32, tiny nlmsEps, m f"""
+*f +f, .marks .output, .count .phase, Spilled Heard, Blank Heard, Heard Blank, forward all_taps, two64 four64, four64 two64, mu_min tiny, max_freq one32, tiny nlms_eps, m f"""
 BECOMES = {}
 for a, b in (pair.split() for pair in (EACH + "," + FIRST).split(",")):
     BECOMES.setdefault(a, []).append(b)
@@ -61,15 +60,12 @@ for a, b in (pair.split() for pair in EACH.split(",")):
 LEFT_OUT = {"flush", "clip", "abs", "neg", "sanitized", "narrow", "held", "not"}
 # where a word that a change brings in comes from
 HOME = {
-    "lib.Ieee": {"lt", "le"},
-    "lib.Dec": {"leb", "ltb"},
-    "lib.ListN": {"take", "drop"},
-    "Prim.Native.Nat": {"min", "max"},
-    "mathlib.Core.Bool": {"true", "false", "_&&_", "_||_"},
-    "Rattle·types.specs.Bits": {"zero32", "one32"},
-    "Rattle·definition·specs.specs.Floats": {"_+f_", "_-f_", "_*f_", "tiny", "nlmsEps", "mseAlpha", "bwMin", "bwMax"},
+    "Rattle.std.specs.Float.Ieee": {"lt", "le"},
+    "Rattle.std.specs.Prelude": {"leb", "ltb", "take", "drop", "min", "max", "true", "false", "◌&&◌", "◌||◌"},
+    "Rattle.types.specs.Bits": {"zero32", "one32"},
+    "Rattle.definition.specs.Floats": {"◌+f◌", "◌-f◌", "◌*f◌", "tiny", "nlms_eps", "mse_alpha", "bw_min", "bw_max"},
 }
-WORD = re.compile(r"0x[0-9a-f_]+|\.?«\w+»|\.?\w+|[-+*/][fd]\b|&&|\|\|")
+WORD = re.compile(r"0x[0-9a-f_]+|\.?\w+|[-+*/][fd]\b|&&|\|\|")
 
 
 def argument(line, at):
@@ -120,7 +116,7 @@ def changes(line):
 
 def imported(text, new):
     """The file with a word that the change brings in."""
-    name = f"_{new}_" if new and not (new[0].isalnum() or new[0] == ".") else new
+    name = f"◌{new}◌" if new and not (new[0].isalnum() or new[0] == ".") else new
     for module, names in HOME.items():
         if name in names and not re.search(r"(?m)^(use .*[{ ]|\w+ pub )" + re.escape(name) + "[,} ]", text):
             return text.replace("use ", f"use {module}.{{{name}}}\nuse ", 1)
@@ -153,13 +149,13 @@ def uses():
 
 
 def proved(folder):
-    return subprocess.run(["rt", "check", "definition"], cwd=folder, capture_output=True).returncode == 0
+    return subprocess.run(["rt", "check", "--jobs", "1"], cwd=folder / "crates" / "definition", capture_output=True).returncode == 0
 
 
 def copied(folder):
     """The folder, with what is proved there."""
     for crate in uses():
-        shutil.copytree(TOP / "crates" / crate, folder / "crates" / crate, ignore=shutil.ignore_patterns("must-fail"))
+        shutil.copytree(TOP / "crates" / crate, folder / "crates" / crate, ignore=shutil.ignore_patterns("must-fail", "out"))
     (folder / "crates.txt").write_text("".join(f"{c}:{u}\n" for c, u in uses().items()))
     return folder
 
