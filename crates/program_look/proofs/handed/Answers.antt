@@ -12,4 +12,4 @@ pub returns-clause-whole : goal.returns-clause-whole
 returns-clause-whole c =
     on_some
     c.ok.result
-    (omega (arith, c.if-path-ge-PATH_MAX.false), before_none 0 c.args.path.now (omega (arith, c.end_of.ensures, c.if-end_of-path.false)))
+    (omega arith, before_none 0 c.args.path.now (omega (arith, c.end_of.ensures, c.if-end_of-path.false)))
