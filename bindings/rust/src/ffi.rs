@@ -1,4 +1,4 @@
-//! The exported calls, as crates/capi declares them, with the structs of crates/capi_numbers and
+//! The exported calls, as crates/capi_c declares them, with the structs of crates/capi_numbers and
 //! include/equalizer.h, which says what a caller must keep to. tests/header.rs holds the structs to
 //! the header; nothing checks the calls' parameters: change all together.
 
