@@ -1,4 +1,4 @@
-// The exported calls that take no samples, from the record as numbers; `capi` exports them and says which numbers each refuses with.
+// The calls of C that take no samples, from the record as numbers; `capi` calls them and says which numbers each refuses with.
 #![tactic(auto)]
 
 ghost use Rattle.std.specs.Prelude.{◌≡◌};

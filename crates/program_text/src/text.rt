@@ -58,7 +58,7 @@ pub fn count(p: &mut [u8], at: usize, n: u64) -> usize
 }
 
 // A magnitude as nine digits and an exponent, which is 100 less than what is held.
-#[derive(Drop)]
+#[derive(Clone, Copy)]
 struct Scaled {
     digits: u64,
     exponent: u64,

@@ -14,20 +14,20 @@ const POWERS: [f64; 23] = [
     1e17, 1e18, 1e19, 1e20, 1e21, 1e22,
 ];
 
-#[derive(Drop)]
+#[derive(Clone, Copy)]
 pub enum Real {
     Value(f64),
     Unreadable,
 }
 
-#[derive(Drop)]
+#[derive(Clone, Copy)]
 pub enum Whole {
     Value(u64),
     Unreadable,
 }
 
 // Digits: their value behind what came before, how many there are, and the place past them.
-#[derive(Drop)]
+#[derive(Clone, Copy)]
 struct Digits {
     value: u64,
     count: usize,
@@ -87,7 +87,7 @@ pub fn whole_of(t: &[u8], most: u64) -> Whole
 }
 
 // The digits before the exponent, and how many of them stand behind the point.
-#[derive(Drop)]
+#[derive(Clone, Copy)]
 struct Mantissa {
     value: u64,
     any: bool,
@@ -130,7 +130,7 @@ fn past_sign(t: &[u8], at: usize) -> usize {
     at
 }
 
-#[derive(Drop)]
+#[derive(Clone, Copy)]
 enum Exponent {
     Up(u64),
     Down(u64),
