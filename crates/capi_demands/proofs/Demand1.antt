@@ -7,9 +7,8 @@ use mathlib.Core.List.{List, [], ◌∷◌}
 use lib.ListN.{get_or}
 use lib.Ieee.{Float}
 use Rattle.types.specs.declared.Error.TheVariants.{Odd, Record}
-use Rattle.types.specs.declared.Outcome.{Outcome}
-use Rattle.types.specs.declared.Outcome.TheVariants.{Served, Refused}
-use Rattle.definition.specs.Refusals.{reply_of, first_of}
+use Rattle.std.specs.Prelude.{Ok, Err}
+use Rattle.definition.specs.Refusals.{Outcome, reply_of, first_of}
 use Rattle.definition.specs.Sample.{Equalizer}
 use Rattle.definition.specs.Rules.{rules, accepted_def}
 use Rattle.definition.specs.Calls.{lengths_of, verdict_def, Answer, answer_by, equalize_def}
@@ -38,8 +37,8 @@ unfolding equalize_def
 reply_is q xs ys ms = go (verdict_def (rules q) (lengths_of q xs ys ms))
   where
     go : (v : Outcome) → (answer_by v q xs ys ms).reply ≡ reply_of (answer_by v q xs ys ms).outcome
-    go Served = refl
-    go (Refused e) = refl
+    go (Ok tt) = refl
+    go (Err e) = refl
 
 -- ---- a record of known numbers
 
@@ -68,7 +67,7 @@ module _ (k : Kept) (xs ys : List Float) (ms : List ℕ) where
 
 -- ---- a record with an unknown number
 
-unknown_is : (b : Bool) → unknown b ≡ reply_of (Refused (cond b Record Odd))
+unknown_is : (b : Bool) → unknown b ≡ reply_of (Err (cond b Record Odd))
 unfolding unknown first_of
 unknown_is true = refl
 unknown_is false = refl

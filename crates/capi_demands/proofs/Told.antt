@@ -6,9 +6,9 @@ use mathlib.Core.List.{List, [], ◌∷◌, ◌++◌, map}
 use lib.Dec.{eqb}
 use lib.Ieee.{Float}
 use Rattle.types.specs.declared.EqualizeState.{EqualizeState}
-use Rattle.types.specs.declared.Outcome.{Outcome}
-use Rattle.types.specs.declared.Outcome.TheVariants.{Served, Refused}
-use Rattle.types_numbers.proofs.Numbered.{not_zero}
+use Rattle.std.specs.Prelude.{Ok, Err}
+use Rattle.definition.specs.Refusals.{Outcome}
+use Rattle.types.proofs.Numbered.{not_zero}
 use Rattle.definition.specs.Slices.{samples_of}
 use Rattle.definition.specs.Sample.{Equalizer, feedback}
 use Rattle.definition.specs.Rules.{rules, accepted_def}
@@ -76,8 +76,8 @@ known_block k xs ys ms h = rw h
 served_is : {A : Type 0} (a : Answer) (q : Equalizer) (xs ys : List Float) (ms : List ℕ) (v : Outcome) (l : List A) → a ≡ answer_by v q xs ys ms
     → if_served (block_out a).filter.reply.number l ≡ def.if_served a.outcome l
 unfolding replied
-served_is a q xs ys ms Served l e = rw e refl
-served_is a q xs ys ms (Refused x) l e = rw (e, not_zero x) refl
+served_is a q xs ys ms (Ok tt) l e = rw e refl
+served_is a q xs ys ms (Err x) l e = rw (e, not_zero x) refl
 
 by_verdict : (q : Equalizer) (xs ys : List Float) (ms : List ℕ) → equalize_def q xs ys ms ≡ answer_by (verdict_def (rules q) (lengths_of q xs ys ms)) q xs ys ms
 unfolding equalize_def

@@ -2,7 +2,7 @@
 use Rattle.std.specs.Prelude.{ℕ, ◌*◌, ◌≤◌, max, ◌≡◌, true, List, ◌++◌, length, take, replicate}
 use Rattle.types.specs.declared.C32.{C32}
 use Rattle.types.specs.declared.Mark.TheVariants.{Blank}
-use Rattle.types_numbers.specs.Numbers.{mark_number}
+use Rattle.types.specs.Numbers.{mark_number}
 use Rattle.definition.specs.Slices.{zeros}
 use Rattle.definition.specs.Sample.{feedback, forward}
 use Rattle.definition.specs.Run.{run_def}

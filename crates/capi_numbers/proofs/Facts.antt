@@ -7,8 +7,8 @@ use lib.Dec.{eqb}
 use borrow.Author.Tests.{eqb-true}
 use lib.Ieee.{is_nan, of_bits, of_fields, lt, eq, le}
 use Rattle.definition.specs.Refusals.{first_of}
-use Rattle.types_numbers.specs.Numbers.{known, case_of, mode_number, modes, known_mode, constellation_number, constellations}
-use Rattle.types_numbers.proofs.Numbered.{mode_known, mode_back, constellation_known, constellation_back}
+use Rattle.types.specs.Numbers.{known, case_of, mode_number, modes, known_mode, constellation_number, constellations}
+use Rattle.types.proofs.Numbered.{mode_known, mode_back, constellation_known, constellation_back}
 use Rattle.types.specs.declared.EqMode.TheVariants.{Decision}
 use Rattle.types.specs.declared.EqConstellation.TheVariants.{Qam64}
 use Rattle.types.specs.declared.EqualizeState.{EqualizeState}

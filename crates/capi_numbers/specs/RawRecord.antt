@@ -1,14 +1,13 @@
 -- THE RECORD OF THE EXPORTED CALLS, as numbers, both ways, and the reply. A record or settings with a number that stands for no constellation or
 -- mode breaks a rule: 8, after 1 where there are slices.
-use Rattle.std.specs.Prelude.{ℕ, Bool, false, ◌&&◌, List, [], ◌∷◌, get_or}
+use Rattle.std.specs.Prelude.{ℕ, Bool, false, ◌&&◌, List, [], ◌∷◌, get_or, cond, Result, Ok, Err}
 use Rattle.types.specs.declared.EqParams.{EqParams}
 use Rattle.types.specs.declared.EqualizeState.{EqualizeState}
 use Rattle.types.specs.declared.Error.TheVariants.{Odd, Record}
-use Rattle.types.specs.declared.Fresh.{Fresh}
-use Rattle.types.specs.declared.Fresh.TheVariants.{Made, NotMade}
+use Rattle.types.specs.declared.numbers.UnknownNumber.{UnknownNumber}
 use Rattle.types.specs.Bits.{zero32, f64}
-use Rattle.types_numbers.specs.Numbers.{mode_number, known_mode, mode_of, constellation_number, known_constellation, constellation_of}
-use Rattle.definition.specs.Refusals.{reply_of, test, first_of}
+use Rattle.types.specs.Numbers.{mode_number, known_mode, mode_of, constellation_number, known_constellation, constellation_of}
+use Rattle.definition.specs.Refusals.{Fresh, reply_of, test, first_of}
 use Rattle.capi_numbers.specs.declared.EqSettings.{EqSettings}
 use Rattle.capi_numbers.specs.declared.EqRecord.{EqRecord}
 use Rattle.capi_numbers.specs.declared.EqReply.{EqReply}
@@ -43,6 +42,15 @@ record_in r = record {
   phase = r.phase;
   freq = r.freq;
 }
+
+-- read: the settings and the record, or the first number that is not known
+
+abbrev pub read_settings : EqSettings → Result EqParams UnknownNumber
+read_settings p = cond (known_settings p) (Ok (settings_in p)) (Err (record { number = p.constellation }))
+
+abbrev pub read_record : EqRecord → Result EqualizeState UnknownNumber
+read_record r =
+    cond (known_settings r.settings) (cond (known_mode r.mode) (Ok (record_in r)) (Err (record { number = r.mode }))) (Err (record { number = r.settings.constellation }))
 
 -- ---- numbers out
 
@@ -87,8 +95,8 @@ replied r l = record { «record» = r; number = get_or l 0 0; expected = get_or 
 
 -- what new replies with
 abbrev pub fresh_out : Fresh → EqRecord
-fresh_out (Made s) = record_out s
-fresh_out (NotMade e) = no_record
+fresh_out (Ok s) = record_out s
+fresh_out (Err e) = no_record
 
 -- An unknown number is tried like any broken rule: 1 where a slice is odd, else 8.
 unfoldable pub unknown : Bool → List ℕ

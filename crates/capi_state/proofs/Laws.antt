@@ -7,9 +7,8 @@ use lib.Ieee.{Float}
 use Rattle.types.specs.declared.EqParams.{EqParams}
 use Rattle.types.specs.declared.EqualizeState.{EqualizeState}
 use Rattle.types.specs.declared.Equalized.{Equalized}
-use Rattle.types.specs.declared.Fresh.{Fresh}
-use Rattle.types.specs.declared.Outcome.TheVariants.{Served}
-use Rattle.definition.specs.Refusals.{reply_of, fresh_reply}
+use Rattle.std.specs.Prelude.{Ok}
+use Rattle.definition.specs.Refusals.{Fresh, reply_of, fresh_reply}
 use Rattle.definition.specs.Packed.{equalizer, made, reset_to, settled}
 use Rattle.definition.specs.Calls.{even, new_def, reset_def, set_mu_cma_def, set_mu_dd_def, set_frequency_def}
 use Rattle.capi_numbers.specs.declared.EqSettings.{EqSettings}
@@ -51,7 +50,7 @@ module _ (p : EqRecord) (b : Bool) (r : EqReply) (k : b ≡ known_record p) wher
     frequency-unknown v d = rw (← k, n) d
 
   module _ (s : EqualizeState) (y : b ≡ true) (a : s ≡ record_in p) where
-    pub frequency-known : (v : Float) (q : EqualizeState) (t : EqRecord) → q ≡ set_frequency_def s v → t ≡ record_out q → r ≡ replied t (reply_of Served) → r ≡ set_frequency_raw p v
+    pub frequency-known : (v : Float) (q : EqualizeState) (t : EqRecord) → q ≡ set_frequency_def s v → t ≡ record_out q → r ≡ replied t (reply_of (Ok tt)) → r ≡ set_frequency_raw p v
     unfolding set_frequency_raw
     frequency-known v q t m o d = rw (← k, y, ← a, ← m, ← o) d
 

@@ -1,15 +1,14 @@
 -- One call of the equalizer from bytes to bytes: the floats of the input are equalized, and where the call is served the output's floats are written.
-use Rattle.std.specs.Prelude.{ℕ, Bool, true, false, cond, List, Float}
-use Rattle.types.specs.declared.Outcome.{Outcome}
-use Rattle.types.specs.declared.Outcome.TheVariants.{Served, Refused}
+use Rattle.std.specs.Prelude.{ℕ, Bool, true, false, cond, List, Float, Ok, Err}
+use Rattle.definition.specs.Refusals.{Outcome}
 use Rattle.definition.specs.Sample.{Equalizer}
 use Rattle.definition.specs.Calls.{Answer, equalize_def}
 use Rattle.cf32.specs.Bytes.{read_into, write_over}
 
 -- Whether a call was served.
 abbrev pub served : Outcome → Bool
-served Served = true
-served (Refused e) = false
+served (Ok tt) = true
+served (Err e) = false
 
 -- What a call from bytes to bytes answers: the equalizer's answer over the floats, the floats of the input, the bytes of the output.
 pub record BytesAnswer : Type 0 where

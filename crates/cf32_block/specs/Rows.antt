@@ -1,7 +1,6 @@
 -- Calls from bytes to bytes, whole, after `new` with 3 taps: one that is served, one that is refused, one whose last bytes have no room.
-use Rattle.std.specs.Prelude.{ℕ, Bool, false, ◌&&◌, List, [], ◌∷◌, replicate}
-use Rattle.types.specs.declared.Fresh.{Fresh}
-use Rattle.types.specs.declared.Fresh.TheVariants.{Made, NotMade}
+use Rattle.std.specs.Prelude.{ℕ, Bool, false, ◌&&◌, List, [], ◌∷◌, replicate, Ok, Err}
+use Rattle.definition.specs.Refusals.{Fresh}
 use Rattle.types.specs.Bits.{f32}
 use Rattle.definition.specs.Slices.{zeros}
 use Rattle.definition.specs.Calls.{NewAnswer, new_def}
@@ -16,8 +15,8 @@ is_answer b reply read ys ms out =
 -- Every float lent is 2, every byte 9. Input, room for floats in, for floats out, for bytes, for marks; then the answer.
 unfoldable on_made : Fresh → NewAnswer → List ℕ → ℕ → ℕ → ℕ → ℕ → List ℕ → List ℕ → List ℕ → List ℕ → List ℕ → Bool
 unfolding is_answer
-on_made (NotMade e) a bs x y o m reply read ys ms out = false
-on_made (Made s) a bs x y o m reply read ys ms out =
+on_made (Err e) a bs x y o m reply read ys ms out = false
+on_made (Ok s) a bs x y o m reply read ys ms out =
     is_answer
     (block_def (record { state = s; weights = a.weights; window = a.window }) bs (replicate x (f32 0x4000_0000)) (replicate y (f32 0x4000_0000)) (replicate o 9) (replicate m 9))
     reply read ys ms out

@@ -1,17 +1,13 @@
 -- THE PUBLIC OPERATIONS, whole: reply, record, weights, window, output, marks. A refusal leaves all as it was.
 -- Each answer holds the outcome as the code's enum has it, and the reply: document 01's number and lengths for it.
 -- Lists left as they were are equal as data: a NaN in them is a NaN again, and its payload is not spoken of (Floats).
-use Rattle.std.specs.Prelude.{ℕ, ◌-◌, ◌*◌, ◌/◌, ◌%◌, Bool, cond, ◌&&◌, List, [], ◌∷◌, ◌++◌, length, eqb, Float}
+use Rattle.std.specs.Prelude.{ℕ, ◌-◌, ◌*◌, ◌/◌, ◌%◌, Bool, cond, ◌&&◌, List, [], ◌∷◌, ◌++◌, length, eqb, Float, Ok, Err}
 use Rattle.std.specs.Float.Ieee.{is_nan}
 use Rattle.types.specs.declared.EqParams.{EqParams}
 use Rattle.types.specs.declared.EqualizeState.{EqualizeState}
-use Rattle.types.specs.declared.Fresh.{Fresh}
-use Rattle.types.specs.declared.Fresh.TheVariants.{Made, NotMade}
 use Rattle.types.specs.declared.Error.TheVariants.{Odd, Feedback, Taps, Window, MuCma, MuDd, Bandwidth, Record, Output, Marks}
-use Rattle.types.specs.declared.Outcome.{Outcome}
-use Rattle.types.specs.declared.Outcome.TheVariants.{Served, Refused}
 use Rattle.types.specs.Start.{start_state}
-use Rattle.definition.specs.Refusals.{reply_of, fresh_reply, Test, test, first_of}
+use Rattle.definition.specs.Refusals.{Outcome, Fresh, reply_of, fresh_reply, Test, test, first_of}
 use Rattle.types.specs.Bits.{zero32}
 use Rattle.definition.specs.Floats.{max_freq, flush, clip}
 use Rattle.definition.specs.Slices.{samples_of, zeros, start_weights}
@@ -82,10 +78,10 @@ unfoldable pub fresh_state : EqParams → EqualizeState
 fresh_state p = start_state p (gain_kp p.phase_bw phase_damping) (gain_ki p.phase_bw phase_damping)
 
 abbrev pub new_by : Outcome → EqParams → List Float → List Float → NewAnswer
-new_by (Refused e) p w h = new_answer (NotMade e) w h
-new_by Served p w h =
+new_by (Err e) p w h = new_answer (Err e) w h
+new_by (Ok tt) p w h =
     let q = start_over (fresh_state p) (length w / 2) in
-    new_answer (Made q.state) q.weights q.window
+    new_answer (Ok q.state) q.weights q.window
 
 -- w and h are what the slices of weights and window hold before the call
 unfoldable pub new_def : EqParams → List Float → List Float → NewAnswer
@@ -109,8 +105,8 @@ abbrev pub reset_answer : Outcome → Equalizer → ResetAnswer
 reset_answer o q = record { outcome = o; reply = reply_of o; equalizer = q }
 
 abbrev pub reset_by : Outcome → Equalizer → ResetAnswer
-reset_by (Refused e) q = reset_answer (Refused e) q
-reset_by Served q = reset_answer Served (start_over (start_state q.state.params q.state.kp q.state.ki) (all_taps q))
+reset_by (Err e) q = reset_answer (Err e) q
+reset_by (Ok tt) q = reset_answer (Ok tt) (start_over (start_state q.state.params q.state.kp q.state.ki) (all_taps q))
 
 unfoldable pub reset_def : Equalizer → ResetAnswer
 reset_def q = reset_by (reset_verdict q) q
@@ -141,11 +137,11 @@ set_answer o s = record { outcome = o; reply = reply_of o; state = s }
 
 unfoldable pub set_mu_cma_def : EqualizeState → Float → SetAnswer
 set_mu_cma_def s mu =
-    cond (mu_fits mu) (set_answer Served (with_params s (with_mus s.params mu s.params.mu_dd))) (set_answer (Refused MuCma) s)
+    cond (mu_fits mu) (set_answer (Ok tt) (with_params s (with_mus s.params mu s.params.mu_dd))) (set_answer (Err MuCma) s)
 
 unfoldable pub set_mu_dd_def : EqualizeState → Float → SetAnswer
 set_mu_dd_def s mu =
-    cond (mu_fits mu) (set_answer Served (with_params s (with_mus s.params s.params.mu_cma mu))) (set_answer (Refused MuDd) s)
+    cond (mu_fits mu) (set_answer (Ok tt) (with_params s (with_mus s.params s.params.mu_cma mu))) (set_answer (Err MuDd) s)
 
 -- `set_frequency` never refuses: NaN gives 0; otherwise below 1e-30 in magnitude gives +0, beyond 0.125 gives ±0.125.
 unfoldable pub held_freq : Float → Float
@@ -200,11 +196,11 @@ abbrev pub answer : Outcome → Equalizer → List Float → List ℕ → Answer
 answer o q ys ms = record { outcome = o; reply = reply_of o; equalizer = q; out = ys; marks = ms }
 
 abbrev pub served_by : Run → Answer
-served_by r = answer Served r.equalizer (written symbol_parts r.outs) (written mark_byte r.outs)
+served_by r = answer (Ok tt) r.equalizer (written symbol_parts r.outs) (written mark_byte r.outs)
 
 abbrev pub answer_by : Outcome → Equalizer → List Float → List Float → List ℕ → Answer
-answer_by Served q xs ys ms = served_by (run_def q (samples_of xs))
-answer_by (Refused e) q xs ys ms = answer (Refused e) q ys ms
+answer_by (Ok tt) q xs ys ms = served_by (run_def q (samples_of xs))
+answer_by (Err e) q xs ys ms = answer (Err e) q ys ms
 
 -- xs is the input; ys and ms are what output and marks hold before the call
 unfoldable pub equalize_def : Equalizer → List Float → List Float → List ℕ → Answer

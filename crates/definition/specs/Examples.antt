@@ -1,13 +1,12 @@
 -- Document 01's "Proved examples", as one table: each row is tested, and the theorem is that all rows pass.
-use Rattle.std.specs.Prelude.{ℕ, ◌+◌, ◌*◌, Bool, true, false, ◌&&◌, List, [], ◌∷◌, eqb, Float}
+use Rattle.std.specs.Prelude.{ℕ, ◌+◌, ◌*◌, Bool, true, false, ◌&&◌, List, [], ◌∷◌, eqb, Float, Ok, Err}
 use Rattle.std.specs.Float.{nan, binary32, binary64}
 use Rattle.std.specs.Float.Ieee.{round, neg}
 use Rattle.types.specs.declared.C32.{C32}
 use Rattle.types.specs.declared.Qam.TheVariants as qam
 use Rattle.types.specs.declared.EqConstellation.{EqConstellation}
 use Rattle.types.specs.declared.EqConstellation.TheVariants.{Bpsk, Qpsk, Psk8, Qam16, Qam64}
-use Rattle.types.specs.declared.Fresh.{Fresh}
-use Rattle.types.specs.declared.Fresh.TheVariants.{Made, NotMade}
+use Rattle.definition.specs.Refusals.{Fresh}
 use Rattle.types.specs.Bits.{f32, zero32, one32}
 use Rattle.definition.specs.Floats.{narrow, complex}
 use Rattle.definition.specs.Slices.{zeros}
@@ -15,7 +14,7 @@ use Rattle.definition.specs.Phase.{phase_step}
 use Rattle.definition.specs.Points.{A, C8, S8, level_of, decide, radius}
 use Rattle.definition.specs.Rules.{same_bits}
 use Rattle.definition.specs.Calls.{Answer, NewAnswer, new_def, equalize_def}
-use Rattle.types_numbers.specs.Numbers.{mode_number}
+use Rattle.types.specs.Numbers.{mode_number}
 use Rattle.definition.specs.Rows.{same, bits_of, settings}
 
 pub data Row : Type 0 where
@@ -38,8 +37,8 @@ pub data Row : Type 0 where
 
 -- a call after `new` with 3 taps; where `new` refuses, nothing
 unfoldable on_made : Fresh → NewAnswer → List Float → List ℕ → List Answer
-on_made (Made s) a xs ms = equalize_def (record { state = s; weights = a.weights; window = a.window }) xs xs ms ∷ []
-on_made (NotMade e) a xs ms = []
+on_made (Ok s) a xs ms = equalize_def (record { state = s; weights = a.weights; window = a.window }) xs xs ms ∷ []
+on_made (Err e) a xs ms = []
 
 unfoldable after_new : ℕ → List Float → List ℕ → List Answer
 after_new cma xs ms = let a = new_def (settings 0 cma) (zeros 6) (zeros 6) in on_made a.answer a xs ms

@@ -2,7 +2,7 @@
 use Rattle.std.specs.Prelude.{ℕ, ◌*◌, ◌≡◌, true, List, length, Float}
 use Rattle.types.specs.declared.EqualizeState.{EqualizeState}
 use Rattle.types.specs.declared.Equalized.{Equalized}
-use Rattle.types.specs.declared.Fresh.{Fresh}
+use Rattle.definition.specs.Refusals.{Fresh}
 use Rattle.definition.specs.Sample.{Equalizer}
 use Rattle.definition.specs.Rules.{accepted_def}
 use Rattle.definition.specs.Run.{Run, written, symbol_parts, mark_byte}

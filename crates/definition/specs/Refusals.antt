@@ -1,12 +1,9 @@
--- The refusals, whose numbers are `error_number` (types_numbers): the two lengths that 4, 9 and 10 return (expected, then got), and the first test that fails.
-use Rattle.std.specs.Prelude.{ℕ, Bool, cond, List, [], ◌∷◌}
+-- The refusals, whose numbers are `error_number` (types): the two lengths that 4, 9 and 10 return (expected, then got), and the first test that fails.
+use Rattle.std.specs.Prelude.{ℕ, Bool, cond, List, [], ◌∷◌, Result, ⊤, Ok, Err}
 use Rattle.types.specs.declared.Error.{Error}
 use Rattle.types.specs.declared.Error.TheVariants.{Odd, Feedback, Taps, Window, MuCma, MuDd, Bandwidth, Record, Output, Marks}
-use Rattle.types.specs.declared.Outcome.{Outcome}
-use Rattle.types.specs.declared.Outcome.TheVariants.{Served, Refused}
-use Rattle.types.specs.declared.Fresh.{Fresh}
-use Rattle.types.specs.declared.Fresh.TheVariants.{Made, NotMade}
-use Rattle.types_numbers.specs.Numbers.{error_number}
+use Rattle.types.specs.declared.EqualizeState.{EqualizeState}
+use Rattle.types.specs.Numbers.{error_number}
 
 -- the table of document 01: what is returned beside the number
 abbrev pub error_values : Error → List ℕ
@@ -21,15 +18,23 @@ error_values Record = []
 error_values (Output expected got) = expected ∷ got ∷ []
 error_values (Marks expected got) = expected ∷ got ∷ []
 
+-- whether a call was served, or why not
+abbrev pub Outcome : Type 0
+Outcome = Result ⊤ Error
+
+-- what `new` gives: a record, or why none
+abbrev pub Fresh : Type 0
+Fresh = Result EqualizeState Error
+
 -- What a caller learns, as document 01's numbers: nothing where the call was served; else the refusal's number and its lengths.
 abbrev pub reply_of : Outcome → List ℕ
-reply_of Served = []
-reply_of (Refused e) = error_number e ∷ error_values e
+reply_of (Ok u) = []
+reply_of (Err e) = error_number e ∷ error_values e
 
 -- the same of `new`
 abbrev pub fresh_reply : Fresh → List ℕ
-fresh_reply (Made s) = []
-fresh_reply (NotMade e) = error_number e ∷ error_values e
+fresh_reply (Ok s) = []
+fresh_reply (Err e) = error_number e ∷ error_values e
 
 -- a test of a call: whether it is passed, and the refusal where it is not
 pub record Test : Type 0 where
@@ -41,5 +46,5 @@ test b e = record { passed = b; refusal = e }
 
 -- The tests are tried in the order of the list, and the first that fails gives the refusal.
 unfoldable pub first_of : List Test → Outcome
-first_of [] = Served
-first_of (t ∷ ts) = cond t.passed (first_of ts) (Refused t.refusal)
+first_of [] = Ok tt
+first_of (t ∷ ts) = cond t.passed (first_of ts) (Err t.refusal)

@@ -1,13 +1,12 @@
 -- The refusals, as one table: every number from every operation that tests it, what it returns, and that all slices and the record are as they
 -- came; two causes at once for each order; and what the operations leave where they serve.
-use Rattle.std.specs.Prelude.{ℕ, ◌+◌, ◌*◌, Bool, true, false, not, ◌&&◌, List, [], ◌∷◌, replicate, set, eqb, Float}
+use Rattle.std.specs.Prelude.{ℕ, ◌+◌, ◌*◌, Bool, true, false, not, ◌&&◌, List, [], ◌∷◌, replicate, set, eqb, Float, Ok, Err}
 use Rattle.std.specs.Float.{nan, inf}
 use Rattle.types.specs.declared.EqMode.{EqMode}
 use Rattle.types.specs.declared.EqMode.TheVariants.{Cma, Decision}
 use Rattle.types.specs.declared.EqParams.{EqParams}
 use Rattle.types.specs.declared.EqualizeState.{EqualizeState}
-use Rattle.types.specs.declared.Fresh.{Fresh}
-use Rattle.types.specs.declared.Fresh.TheVariants.{Made, NotMade}
+use Rattle.definition.specs.Refusals.{Fresh}
 use Rattle.types.specs.Bits.{f32, zero32, one32}
 use Rattle.definition.specs.Sample.{Equalizer, all_taps, forward, with_running}
 use Rattle.definition.specs.Rules.{rule_r1, accepted_def}
@@ -25,8 +24,8 @@ new_refused p lw lh reply =
     same a.reply reply && same (bits_of a.weights) (bits_of w) && same (bits_of a.window) (bits_of h)
 
 unfoldable made_bits : Fresh → List ℕ
-made_bits (Made s) = state_bits s
-made_bits (NotMade e) = []
+made_bits (Ok s) = state_bits s
+made_bits (Err e) = []
 
 -- served: the weights are all 0 but 1 at the place c, the window is all 0
 unfoldable new_served : EqParams → ℕ → ℕ → List ℕ → Bool

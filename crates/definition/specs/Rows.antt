@@ -8,7 +8,7 @@ use Rattle.types.specs.declared.EqConstellation.TheVariants.{Qpsk}
 use Rattle.types.specs.declared.EqParams.{EqParams}
 use Rattle.types.specs.declared.EqualizeState.{EqualizeState}
 use Rattle.types.specs.Bits.{f32, f64}
-use Rattle.types_numbers.specs.Numbers.{mode_number, constellation_number}
+use Rattle.types.specs.Numbers.{mode_number, constellation_number}
 use Rattle.definition.specs.Sample.{Equalizer}
 
 abbrev pub same : List ℕ → List ℕ → Bool

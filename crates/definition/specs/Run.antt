@@ -1,7 +1,7 @@
 -- A block of samples: one sample after the other.
 use Rattle.std.specs.Prelude.{ℕ, List, [], ◌∷◌, ◌++◌, Float}
 use Rattle.types.specs.declared.C32.{C32}
-use Rattle.types_numbers.specs.Numbers.{mark_number}
+use Rattle.types.specs.Numbers.{mark_number}
 use Rattle.definition.specs.Sample.{Equalizer, Out, sample_def}
 
 -- what a block leaves, and one symbol and one mark for each sample

@@ -10,7 +10,7 @@ use lib.Seq.{take-suc-set, take_all, drop-cons}
 use lib.Dec.{T}
 use lib.Ieee.{Float, nan}
 use Rattle.types.specs.declared.C32.{C32}
-use Rattle.types_numbers.specs.Numbers.{mark_number}
+use Rattle.types.specs.Numbers.{mark_number}
 use Rattle.definition.specs.Floats.{complex}
 use Rattle.definition.specs.Slices.{samples_of}
 use Rattle.definition.specs.Sample.{Equalizer, Did, Out, sample_def}

@@ -1,4 +1,4 @@
--- Which test of a list fails first, and what `Served` says. Assumes nothing.
+-- Which test of a list fails first, and what a served call says. Assumes nothing.
 use Prim.Native.Nat.{ℕ, ◌/◌, ◌%◌}
 use mathlib.Core.Path.{◌≡◌, refl, sym}
 use mathlib.Core.Bool.{Bool, true, false, cond, ◌&&◌}
@@ -8,9 +8,8 @@ use lib.ListN.{length}
 use lib.Ieee.{Float}
 use borrow.Author.Tests.{eqb-true}
 use Rattle.types.specs.declared.Error.{Error}
-use Rattle.types.specs.declared.Outcome.{Outcome}
-use Rattle.types.specs.declared.Outcome.TheVariants.{Served, Refused}
-use Rattle.definition.specs.Refusals.{Test, test, first_of}
+use Rattle.std.specs.Prelude.{Ok, Err}
+use Rattle.definition.specs.Refusals.{Outcome, Test, test, first_of}
 use Rattle.definition.specs.Slices.{whole}
 use Rattle.definition.specs.Sample.{Equalizer}
 use Rattle.definition.specs.Rules.{rules, accepted_def}
@@ -33,7 +32,7 @@ no_both e = let z : ◌≡◌ {A = ℕ} 0 1 = cc in omega arith
 
 -- ---- the first test that fails
 
-pub refused_not : (e : Error) → Served ≡ Refused e → ⊥
+pub refused_not : (e : Error) → ◌≡◌ {A = Outcome} (Ok tt) (Err e) → ⊥
 refused_not e h = let z : ◌≡◌ {A = ℕ} 0 1 = cc in omega arith
 
 module _ (b : Bool) (e : Error) (ts : List Test) where
@@ -41,22 +40,22 @@ module _ (b : Bool) (e : Error) (ts : List Test) where
   unfolding first_of
   passes p = rw p
 
-  pub fails : b ≡ false → first_of (test b e ∷ ts) ≡ Refused e
+  pub fails : b ≡ false → first_of (test b e ∷ ts) ≡ Err e
   unfolding first_of
   fails p = rw p
 
-  pub fine : first_of (test b e ∷ ts) ≡ Served → (b ≡ true) × (first_of ts ≡ Served)
+  pub fine : first_of (test b e ∷ ts) ≡ (Ok tt) → (b ≡ true) × (first_of ts ≡ (Ok tt))
   unfolding first_of
   fine h = go b refl h
     where
-      go : (c : Bool) → b ≡ c → cond c (first_of ts) (Refused e) ≡ Served → (b ≡ true) × (first_of ts ≡ Served)
+      go : (c : Bool) → b ≡ c → cond c (first_of ts) (Err e) ≡ (Ok tt) → (b ≡ true) × (first_of ts ≡ (Ok tt))
       go true p k = (p, k)
       go false p k = absurd (refused_not e (sym k))
 
--- the first outcome, or the second where the first is Served
+-- the first outcome, or the second where the first is none
 abbrev pub or_next : Outcome → Outcome → Outcome
-or_next Served o = o
-or_next (Refused e) o = Refused e
+or_next (Ok tt) o = o
+or_next (Err e) o = Err e
 
 -- of joined lists the first that fails is that of the one, and that of the other where the one passes
 pub joined : (a b : List Test) → first_of (a ++ b) ≡ or_next (first_of a) (first_of b)
@@ -64,7 +63,7 @@ unfolding first_of
 joined [] b = refl
 joined (t ∷ a) b = go t.passed (joined a b)
   where
-    go : (c : Bool) → first_of (a ++ b) ≡ or_next (first_of a) (first_of b) → cond c (first_of (a ++ b)) (Refused t.refusal) ≡ or_next (cond c (first_of a) (Refused t.refusal)) (first_of b)
+    go : (c : Bool) → first_of (a ++ b) ≡ or_next (first_of a) (first_of b) → cond c (first_of (a ++ b)) (Err t.refusal) ≡ or_next (cond c (first_of a) (Err t.refusal)) (first_of b)
     go true h = h
     go false h = refl
 
@@ -77,7 +76,7 @@ pub record Fits (q : Equalizer) (xs ys : List Float) (ms : List ℕ) : Type 0 wh
   pub output : length ys / 2 ≡ length xs / 2
   pub marks : length ms ≡ length xs / 2
 
-pub served_fits : (q : Equalizer) (xs ys : List Float) (ms : List ℕ) → verdict_def (rules q) (lengths_of q xs ys ms) ≡ Served → Fits q xs ys ms
+pub served_fits : (q : Equalizer) (xs ys : List Float) (ms : List ℕ) → verdict_def (rules q) (lengths_of q xs ys ms) ≡ (Ok tt) → Fits q xs ys ms
 unfolding verdict_def equalize_tests accepted_def
 served_fits q xs ys ms h =
     let a = fine _ _ _ h in

@@ -4,8 +4,8 @@ use mathlib.Core.Path.{◌≡◌, refl, sym, ◌∙◌, ap}
 use mathlib.Core.List.{List, [], ◌∷◌, ◌++◌}
 use lib.Ieee.{Float}
 use Rattle.types.specs.declared.C32.{C32}
-use Rattle.types.specs.declared.Outcome.{Outcome}
-use Rattle.types.specs.declared.Outcome.TheVariants.{Served, Refused}
+use Rattle.std.specs.Prelude.{Ok, Err}
+use Rattle.definition.specs.Refusals.{Outcome}
 use Rattle.definition.specs.Slices.{samples_of}
 use Rattle.definition.specs.Sample.{Equalizer}
 use Rattle.definition.specs.Rules.{rules}
@@ -23,7 +23,7 @@ module _ (q : Equalizer) (o : Observed) (os : List Observed) where
   -- the first call by its answer, and the law for the later ones
   first : (v : Outcome) → o.answer ≡ answer_by v q o.call.input o.call.output o.call.marks → OneRun o.answer.equalizer os → OneRun q (o ∷ os)
   unfolding samples symbols marks left
-  first Served e r =
+  first (Ok tt) e r =
       let xs = samples_of o.call.input in
       let a = run_append q xs (samples os) in
       let at : o.answer.equalizer ≡ (run_def q xs).equalizer = ap (λ (a : Answer). a.equalizer) e in
@@ -34,7 +34,7 @@ module _ (q : Equalizer) (o : Observed) (os : List Observed) where
             ∙ sym (written_append mark_byte (run_def q xs).outs (run_def (run_def q xs).equalizer (samples os)).outs) ∙ ap (λ (t : Run). written mark_byte t.outs) (sym a);
         left = ap (λ (p : Equalizer). left p os) (sym at) ∙ r.left ∙ ap (λ (p : Equalizer). (run_def p (samples os)).equalizer) at ∙ ap (λ (t : Run). t.equalizer) (sym a);
       })
-  first (Refused x) e r =
+  first (Err x) e r =
       let at : o.answer.equalizer ≡ q = ap (λ (a : Answer). a.equalizer) e in
       rw e (record {
         symbols = r.symbols ∙ ap (λ (p : Equalizer). written symbol_parts (run_def p (samples os)).outs) at;

@@ -15,9 +15,8 @@ use Rattle.types.specs.declared.EqParams.{EqParams}
 use Rattle.types.specs.declared.EqualizeState.{EqualizeState}
 use Rattle.types.specs.declared.Error.{Error}
 use Rattle.types.specs.declared.Error.TheVariants.{MuCma, MuDd}
-use Rattle.types.specs.declared.Fresh.TheVariants.{Made, NotMade}
-use Rattle.types.specs.declared.Outcome.{Outcome}
-use Rattle.types.specs.declared.Outcome.TheVariants.{Served, Refused}
+use Rattle.std.specs.Prelude.{Ok, Err}
+use Rattle.definition.specs.Refusals.{Outcome, Fresh}
 use Rattle.types.specs.Bits.{zero32}
 use Rattle.definition.specs.Slices.{complex_length, zeros, start_weights}
 use Rattle.definition.specs.Gains.{phase_damping, gain_kp, gain_ki}
@@ -114,17 +113,17 @@ start_r2 p x y z = r2_whole _ (unfold start_state in (record { cma = x; dd = y; 
 
 -- ---- new
 
-not_made : (e : Error) (s : EqualizeState) → NotMade e ≡ Made s → ⊥
+not_made : (e : Error) (s : EqualizeState) → Err e ≡ Ok s → ⊥
 not_made e s h = let z : ◌≡◌ {A = ℕ} 0 1 = cc in omega arith
 
-made_is : (s t : EqualizeState) → Made s ≡ Made t → s ≡ t
+made_is : (s t : EqualizeState) → ◌≡◌ {A = Fresh} (Ok s) (Ok t) → s ≡ t
 made_is s t h = cc
 
-new_by_lem : (p : EqParams) (w h : List Float) (s : EqualizeState) (v : Outcome) → new_verdict p (length w) (length h) ≡ v → (new_by v p w h).answer ≡ Made s
+new_by_lem : (p : EqParams) (w h : List Float) (s : EqualizeState) (v : Outcome) → new_verdict p (length w) (length h) ≡ v → (new_by v p w h).answer ≡ Ok s
     → accepted_def (record { state = s; weights = (new_by v p w h).weights; window = (new_by v p w h).window }) ≡ true
 unfolding new_verdict new_tests
-new_by_lem p w h s (Refused e) v m = absurd (not_made e s m)
-new_by_lem p w h s Served v m =
+new_by_lem p w h s (Err e) v m = absurd (not_made e s m)
+new_by_lem p w h s (Ok tt) v m =
     let a = fine _ _ _ v in
     let b = fine _ _ _ a.1 in
     let c = fine _ _ _ b.1 in
@@ -136,16 +135,16 @@ new_by_lem p w h s Served v m =
     subst (λ (u : EqualizeState). accepted_def (record { state = u; weights = t.weights; window = t.window }) ≡ true) (made_is t.state s m)
     (unfold fresh_state in (start-accepted p (gain_kp p.phase_bw phase_damping) (gain_ki p.phase_bw phase_damping) (length w / 2) b.0 c.0 (start_r2 p e.0 f.0 g.0)))
 
-new_kept : (p : EqParams) (w h : List Float) (e : Error) (v : Outcome) → (new_by v p w h).answer ≡ NotMade e → ((new_by v p w h).weights ≡ w) × ((new_by v p w h).window ≡ h)
-new_kept p w h e Served m = absurd (not_made e _ (sym m))
-new_kept p w h e (Refused x) m = (refl, refl)
+new_kept : (p : EqParams) (w h : List Float) (e : Error) (v : Outcome) → (new_by v p w h).answer ≡ Err e → ((new_by v p w h).weights ≡ w) × ((new_by v p w h).window ≡ h)
+new_kept p w h e (Ok tt) m = absurd (not_made e _ (sym m))
+new_kept p w h e (Err x) m = (refl, refl)
 
 -- ---- reset
 
-reset_by_lem : (q : Equalizer) (v : Outcome) → reset_verdict q ≡ v → (reset_by v q).outcome ≡ Served → accepted_def (reset_by v q).equalizer ≡ true
+reset_by_lem : (q : Equalizer) (v : Outcome) → reset_verdict q ≡ v → (reset_by v q).outcome ≡ (Ok tt) → accepted_def (reset_by v q).equalizer ≡ true
 unfolding reset_verdict
-reset_by_lem q (Refused e) v m = absurd (refused_not e (sym m))
-reset_by_lem q Served v m =
+reset_by_lem q (Err e) v m = absurd (refused_not e (sym m))
+reset_by_lem q (Ok tt) v m =
     let a = fine _ _ _ v in
     let b = fine _ _ _ a.1 in
     let r = both (rule_r1 q) (rule_r2 q.state) b.0 in
@@ -154,9 +153,9 @@ reset_by_lem q Served v m =
     let s = q.state in
     start-accepted s.params s.kp s.ki (all_taps q) two.0 two.1 (unfold rule_r2 start_state in r.1)
 
-reset_kept : (q : Equalizer) (e : Error) (v : Outcome) → (reset_by v q).outcome ≡ Refused e → (reset_by v q).equalizer ≡ q
-reset_kept q e Served m = absurd (refused_not e m)
-reset_kept q e (Refused x) m = refl
+reset_kept : (q : Equalizer) (e : Error) (v : Outcome) → (reset_by v q).outcome ≡ Err e → (reset_by v q).equalizer ≡ q
+reset_kept q e (Ok tt) m = absurd (refused_not e m)
+reset_kept q e (Err x) m = refl
 
 -- ---- the setters
 
@@ -187,7 +186,7 @@ module _ (q : Equalizer) (mu : Float) (t : accepted_def q ≡ true) where
       s : EqualizeState
       s = with_params q.state (with_mus q.state.params mu q.state.params.mu_dd)
 
-      go : (b : Bool) → mu_fits mu ≡ b → accepted_def (with_state q (cond {A = SetAnswer} b (set_answer Served (with_params q.state (with_mus q.state.params mu q.state.params.mu_dd))) (set_answer (Refused MuCma) q.state)).state) ≡ true
+      go : (b : Bool) → mu_fits mu ≡ b → accepted_def (with_state q (cond {A = SetAnswer} b (set_answer (Ok tt) (with_params q.state (with_mus q.state.params mu q.state.params.mu_dd))) (set_answer (Err MuCma) q.state)).state) ≡ true
       go true e = changed q _ parts refl refl (r2_whole _ (record { cma = e; dd = two.dd; bw = two.bw; kp = two.kp; ki = two.ki })) parts.freq refl refl
       go false e = t
 
@@ -195,7 +194,7 @@ module _ (q : Equalizer) (mu : Float) (t : accepted_def q ≡ true) where
   unfolding set_mu_dd_def
   set-dd = go (mu_fits mu) refl
     where
-      go : (b : Bool) → mu_fits mu ≡ b → accepted_def (with_state q (cond {A = SetAnswer} b (set_answer Served (with_params q.state (with_mus q.state.params q.state.params.mu_cma mu))) (set_answer (Refused MuDd) q.state)).state) ≡ true
+      go : (b : Bool) → mu_fits mu ≡ b → accepted_def (with_state q (cond {A = SetAnswer} b (set_answer (Ok tt) (with_params q.state (with_mus q.state.params q.state.params.mu_cma mu))) (set_answer (Err MuDd) q.state)).state) ≡ true
       go true e = changed q _ parts refl refl (r2_whole _ (record { cma = two.cma; dd = e; bw = two.bw; kp = two.kp; ki = two.ki })) parts.freq refl refl
       go false e = t
 
@@ -220,11 +219,11 @@ others_accepted = record {
 }
 
 -- the record of a setter, by its test
-set_kept : (b : Bool) (s t : EqualizeState) (e x : Error) → (cond b (set_answer Served t) (set_answer (Refused x) s)).outcome ≡ Refused e → (cond b (set_answer Served t) (set_answer (Refused x) s)).state ≡ s
+set_kept : (b : Bool) (s t : EqualizeState) (e x : Error) → (cond b (set_answer (Ok tt) t) (set_answer (Err x) s)).outcome ≡ Err e → (cond b (set_answer (Ok tt) t) (set_answer (Err x) s)).state ≡ s
 set_kept true s t e x m = absurd (refused_not e m)
 set_kept false s t e x m = refl
 
-set_moved : (b : Bool) (s t : EqualizeState) (x : Error) → (cond b (set_answer Served t) (set_answer (Refused x) s)).outcome ≡ Served → (cond b (set_answer Served t) (set_answer (Refused x) s)).state ≡ t
+set_moved : (b : Bool) (s t : EqualizeState) (x : Error) → (cond b (set_answer (Ok tt) t) (set_answer (Err x) s)).outcome ≡ (Ok tt) → (cond b (set_answer (Ok tt) t) (set_answer (Err x) s)).state ≡ t
 set_moved true s t x m = refl
 set_moved false s t x m = absurd (refused_not x (sym m))
 

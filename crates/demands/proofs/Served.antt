@@ -11,10 +11,9 @@ use lib.Dec.{T, eqb}
 use lib.Ieee.{Float}
 use Rattle.types.specs.declared.C32.{C32}
 use Rattle.types.specs.declared.Error.TheVariants.{Odd, Record, Output, Marks}
-use Rattle.types.specs.declared.Outcome.{Outcome}
-use Rattle.types_numbers.specs.Numbers.{mark_number}
-use Rattle.types.specs.declared.Outcome.TheVariants.{Served, Refused}
-use Rattle.definition.specs.Refusals.{test, first_of}
+use Rattle.std.specs.Prelude.{Ok, Err}
+use Rattle.types.specs.Numbers.{mark_number}
+use Rattle.definition.specs.Refusals.{Outcome, test, first_of}
 use Rattle.definition.specs.Slices.{whole, samples_of}
 use Rattle.definition.specs.Sample.{Equalizer, all_taps, forward, step1, step8, sample_def}
 use Rattle.definition.specs.Rules.{rules, accepted_def}
@@ -37,7 +36,7 @@ twice_half n h = omega arith
 
 by_verdict : (q : Equalizer) (xs ys : List Float) (ms : List ℕ) (v : Outcome) → verdict_def (rules q) (lengths_of q xs ys ms) ≡ v
     → ServedCall xs (answer_by v q xs ys ms) ⊎ RefusedCall q ys ms (answer_by v q xs ys ms)
-by_verdict q xs ys ms Served e =
+by_verdict q xs ys ms (Ok tt) e =
     let f = served_fits q xs ys ms e in
     let outs = (run_def q (samples_of xs)).outs in
     let n : length outs ≡ length xs / 2 = run_outs q (samples_of xs) ∙ samples_length xs in
@@ -47,7 +46,7 @@ by_verdict q xs ys ms Served e =
       symbols = symbols_length outs ∙ ap (λ (k : ℕ). 2 * k) n ∙ twice_half (length xs) f.even_in;
       marks = marks_length outs ∙ n;
     })
-by_verdict q xs ys ms (Refused r) e = inr (record { error = r; outcome = refl; reply = refl; equalizer = refl; out = refl; marks = refl })
+by_verdict q xs ys ms (Err r) e = inr (record { error = r; outcome = refl; reply = refl; equalizer = refl; out = refl; marks = refl })
 
 pub demand1 : Demand1
 unfolding equalize_def
@@ -60,8 +59,8 @@ unfolding equalize_def
 outcome_is q xs ys ms = go (verdict_def (rules q) (lengths_of q xs ys ms))
   where
     go : (v : Outcome) → (answer_by v q xs ys ms).outcome ≡ v
-    go Served = refl
-    go (Refused e) = refl
+    go (Ok tt) = refl
+    go (Err e) = refl
 
 pub by_lengths : ByLengths
 unfolding accepted_def

@@ -1,19 +1,16 @@
 -- DEMAND 1. "A block handed in with its record and buffers, be it long, empty, mismatched, forged or full of infinities, is either served, with
 -- one symbol and one mark per sample, or refused by a listed number with every buffer and the record as they came; a served block's record is
 -- accepted by the next call."
-use Rattle.std.specs.Prelude.{ℕ, ◌/◌, ◌<◌, ◌≡◌, ◌⊎◌, true, cond, ◌&&◌, List, [], ◌∷◌, length, get_or, take, eqb, Float}
+use Rattle.std.specs.Prelude.{ℕ, ◌/◌, ◌<◌, ◌≡◌, ◌⊎◌, true, cond, ◌&&◌, List, [], ◌∷◌, length, get_or, take, eqb, Float, Ok, Err}
 use Rattle.types.specs.declared.C32.{C32}
 use Rattle.types.specs.declared.EqParams.{EqParams}
 use Rattle.types.specs.declared.EqualizeState.{EqualizeState}
 use Rattle.types.specs.declared.Error.{Error}
 use Rattle.types.specs.declared.Error.TheVariants.{Odd, Output, Marks}
-use Rattle.types.specs.declared.Fresh.TheVariants.{Made, NotMade}
-use Rattle.types.specs.declared.Outcome.{Outcome}
-use Rattle.types.specs.declared.Outcome.TheVariants.{Served, Refused}
 use Rattle.types.specs.declared.Mark.{Mark}
 use Rattle.types.specs.declared.Mark.TheVariants.{Heard, Blank, Spilled}
-use Rattle.types_numbers.specs.Numbers.{error_number, mark_number}
-use Rattle.definition.specs.Refusals.{error_values, test, first_of}
+use Rattle.types.specs.Numbers.{error_number, mark_number}
+use Rattle.definition.specs.Refusals.{Outcome, error_values, test, first_of}
 use Rattle.definition.specs.Floats.{zero_c, finite_c}
 use Rattle.definition.specs.Sample.{Equalizer, all_taps, forward, step1, step2, with_running}
 use Rattle.definition.specs.Rules.{accepted_def}
@@ -22,7 +19,7 @@ use Rattle.definition.specs.Calls.{even, Answer, equalize_def, new_def, reset_de
 
 -- served: one symbol and one mark per sample, and what is left is accepted
 pub record ServedCall (xs : List Float) (a : Answer) : Type 0 where
-  pub outcome : a.outcome ≡ Served
+  pub outcome : a.outcome ≡ (Ok tt)
   pub accepted : accepted_def a.equalizer ≡ true
   pub symbols : length a.out ≡ length xs
   pub marks : length a.marks ≡ length xs / 2
@@ -30,7 +27,7 @@ pub record ServedCall (xs : List Float) (a : Answer) : Type 0 where
 -- refused: the number, its lengths, and record, weights, window, output and marks as they came
 pub record RefusedCall (q : Equalizer) (ys : List Float) (ms : List ℕ) (a : Answer) : Type 0 where
   pub error : Error
-  pub outcome : a.outcome ≡ Refused error
+  pub outcome : a.outcome ≡ Err error
   pub reply : a.reply ≡ error_number error ∷ error_values error
   pub equalizer : a.equalizer ≡ q
   pub out : a.out ≡ ys
@@ -66,20 +63,20 @@ abbrev pub with_state : Equalizer → EqualizeState → Equalizer
 with_state q s = record { state = s; weights = q.weights; window = q.window }
 
 pub record OthersAccepted : Type 0 where
-  pub new : (p : EqParams) (w h : List Float) (s : EqualizeState) → (new_def p w h).answer ≡ Made s
+  pub new : (p : EqParams) (w h : List Float) (s : EqualizeState) → (new_def p w h).answer ≡ Ok s
       → accepted_def (record { state = s; weights = (new_def p w h).weights; window = (new_def p w h).window }) ≡ true
-  pub reset : (q : Equalizer) → (reset_def q).outcome ≡ Served → accepted_def (reset_def q).equalizer ≡ true
+  pub reset : (q : Equalizer) → (reset_def q).outcome ≡ (Ok tt) → accepted_def (reset_def q).equalizer ≡ true
   pub set_mu_cma : (q : Equalizer) (mu : Float) → accepted_def q ≡ true → accepted_def (with_state q (set_mu_cma_def q.state mu).state) ≡ true
   pub set_mu_dd : (q : Equalizer) (mu : Float) → accepted_def q ≡ true → accepted_def (with_state q (set_mu_dd_def q.state mu).state) ≡ true
   pub set_frequency : (q : Equalizer) (v : Float) → accepted_def q ≡ true → accepted_def (with_state q (set_frequency_def q.state v)) ≡ true
 
 pub record OthersRefused : Type 0 where
-  pub new : (p : EqParams) (w h : List Float) (e : Error) → (new_def p w h).answer ≡ NotMade e → ((new_def p w h).weights ≡ w) × ((new_def p w h).window ≡ h)
-  pub reset : (q : Equalizer) (e : Error) → (reset_def q).outcome ≡ Refused e → (reset_def q).equalizer ≡ q
-  pub set_mu_cma : (s : EqualizeState) (mu : Float) (e : Error) → (set_mu_cma_def s mu).outcome ≡ Refused e → (set_mu_cma_def s mu).state ≡ s
-  pub set_mu_dd : (s : EqualizeState) (mu : Float) (e : Error) → (set_mu_dd_def s mu).outcome ≡ Refused e → (set_mu_dd_def s mu).state ≡ s
+  pub new : (p : EqParams) (w h : List Float) (e : Error) → (new_def p w h).answer ≡ Err e → ((new_def p w h).weights ≡ w) × ((new_def p w h).window ≡ h)
+  pub reset : (q : Equalizer) (e : Error) → (reset_def q).outcome ≡ Err e → (reset_def q).equalizer ≡ q
+  pub set_mu_cma : (s : EqualizeState) (mu : Float) (e : Error) → (set_mu_cma_def s mu).outcome ≡ Err e → (set_mu_cma_def s mu).state ≡ s
+  pub set_mu_dd : (s : EqualizeState) (mu : Float) (e : Error) → (set_mu_dd_def s mu).outcome ≡ Err e → (set_mu_dd_def s mu).state ≡ s
 
 pub record SettersMove : Type 0 where
-  pub moves_mu_cma : (s : EqualizeState) (mu : Float) → (set_mu_cma_def s mu).outcome ≡ Served → (set_mu_cma_def s mu).state ≡ with_params s (with_mus s.params mu s.params.mu_dd)
-  pub moves_mu_dd : (s : EqualizeState) (mu : Float) → (set_mu_dd_def s mu).outcome ≡ Served → (set_mu_dd_def s mu).state ≡ with_params s (with_mus s.params s.params.mu_cma mu)
+  pub moves_mu_cma : (s : EqualizeState) (mu : Float) → (set_mu_cma_def s mu).outcome ≡ (Ok tt) → (set_mu_cma_def s mu).state ≡ with_params s (with_mus s.params mu s.params.mu_dd)
+  pub moves_mu_dd : (s : EqualizeState) (mu : Float) → (set_mu_dd_def s mu).outcome ≡ (Ok tt) → (set_mu_dd_def s mu).state ≡ with_params s (with_mus s.params s.params.mu_cma mu)
   pub frequency : (s : EqualizeState) (v : Float) → set_frequency_def s v ≡ with_running s s.mode s.count s.mse s.phase (held_freq v)

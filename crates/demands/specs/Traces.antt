@@ -1,8 +1,7 @@
 -- Equalizing calls that follow one another, as their caller sees them.
-use Rattle.std.specs.Prelude.{ℕ, ◌≡◌, Bool, true, not, List, [], ◌∷◌, ◌++◌, eqb, Float}
+use Rattle.std.specs.Prelude.{ℕ, ◌≡◌, Bool, true, not, List, [], ◌∷◌, ◌++◌, eqb, Float, Ok, Err}
 use Rattle.types.specs.declared.C32.{C32}
-use Rattle.types.specs.declared.Outcome.{Outcome}
-use Rattle.types.specs.declared.Outcome.TheVariants.{Served, Refused}
+use Rattle.definition.specs.Refusals.{Outcome}
 use Rattle.definition.specs.Slices.{samples_of}
 use Rattle.definition.specs.Sample.{Equalizer, feedback}
 use Rattle.definition.specs.Calls.{Answer, equalize_def}
@@ -39,8 +38,8 @@ pub data Follow : Equalizer → List Observed → Type 0 where
 
 -- "A list's samples, symbols and marks are those of its served calls, joined in order; a refused call adds none."
 abbrev pub if_served : {A : Type 0} → Outcome → List A → List A
-if_served Served l = l
-if_served (Refused e) l = []
+if_served (Ok tt) l = l
+if_served (Err e) l = []
 
 unfoldable pub samples : List Observed → List C32
 samples [] = []

@@ -6,8 +6,8 @@ use native.Mathlib.Omega.{arith}
 use lib.Ieee.{Float}
 use Rattle.types.specs.declared.EqualizeState.{EqualizeState}
 use Rattle.types.specs.declared.Error.{Error}
-use Rattle.types.specs.declared.Outcome.{Outcome}
-use Rattle.types.specs.declared.Outcome.TheVariants.{Served, Refused}
+use Rattle.std.specs.Prelude.{Ok, Err}
+use Rattle.definition.specs.Refusals.{Outcome}
 use Rattle.definition.specs.Slices.{samples_of}
 use Rattle.definition.specs.Packed.{equalizer, answered, ServedBlock, Ran}
 use Rattle.definition.specs.Run.{run_def}
@@ -16,19 +16,19 @@ use Rattle.definition.specs.Calls.{lengths_of, verdict_def, served_by, equalize_
 use Rattle.definition_laws.proofs.Verdicts.{served_fits}
 
 module _ (s : EqualizeState) (w h xs ys : List Float) (ms : List ℕ) (v : Outcome) (p : v ≡ verdict_def (rules (equalizer s w h)) (lengths_of (equalizer s w h) xs ys ms)) where
-  pub call-shaped : v ≡ Served → ServedBlock (equalizer s w h) xs ys ms
+  pub call-shaped : v ≡ (Ok tt) → ServedBlock (equalizer s w h) xs ys ms
   call-shaped e =
       let f = served_fits (equalizer s w h) xs ys ms (sym p ∙ e) in
       record { accepted = f.accepted; input = omega (arith, f.even_in, f.marks); output = omega (arith, f.even_in, f.even_out, f.marks, f.output) }
 
-  pub call-refused : (e : Error) → v ≡ Refused e → answered (record { state = s; outcome = v }) w h ys ms ≡ equalize_def (equalizer s w h) xs ys ms
+  pub call-refused : (e : Error) → v ≡ Err e → answered (record { state = s; outcome = v }) w h ys ms ≡ equalize_def (equalizer s w h) xs ys ms
   unfolding equalize_def
   call-refused e d = rw (← p, d)
 
-  pub call-served : v ≡ Served → (t : EqualizeState) (w' h' ys' : List Float) (ms' : List ℕ) → Ran (run_def (equalizer s w h) (samples_of xs)) (equalizer t w' h') ys' ms'
+  pub call-served : v ≡ (Ok tt) → (t : EqualizeState) (w' h' ys' : List Float) (ms' : List ℕ) → Ran (run_def (equalizer s w h) (samples_of xs)) (equalizer t w' h') ys' ms'
       → answered (record { state = t; outcome = v }) w' h' ys' ms' ≡ equalize_def (equalizer s w h) xs ys ms
   unfolding equalize_def
   call-served d t w' h' ys' ms' r = rw (← p, d) (same r)
     where
-      same : Ran (run_def (equalizer s w h) (samples_of xs)) (equalizer t w' h') ys' ms' → answered (record { state = t; outcome = Served }) w' h' ys' ms' ≡ served_by (run_def (equalizer s w h) (samples_of xs))
-      same r = λ i. record { outcome = Served; reply = []; equalizer = r.left i; out = r.out i; marks = r.marks i }
+      same : Ran (run_def (equalizer s w h) (samples_of xs)) (equalizer t w' h') ys' ms' → answered (record { state = t; outcome = (Ok tt) }) w' h' ys' ms' ≡ served_by (run_def (equalizer s w h) (samples_of xs))
+      same r = λ i. record { outcome = (Ok tt); reply = []; equalizer = r.left i; out = r.out i; marks = r.marks i }

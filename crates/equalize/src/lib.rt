@@ -2,7 +2,7 @@
 // feedback taps, newest first in each.
 #![tactic(auto)]
 
-use types::{EqualizeState, Equalized, Outcome};
+use types::{EqualizeState, Equalized};
 
 pub mod reference;
 
@@ -128,22 +128,15 @@ pub fn equalize(
     ensures { Promised (by_taps (equalizer state weights.old window.old)) (equalizer state weights.old window.old) input.now output.old marks.old
         (answered result weights.new window.new output.new marks.new) }
 {
-    let v = record_verdict::verdict(
+    if let Err(e) = record_verdict::verdict(
         state,
         weights,
         window,
         input.len(),
         output.len(),
         marks.len(),
-    );
-    match v {
-        Outcome::Refused(_) => Equalized { state, outcome: v },
-        Outcome::Served => {
-            let next = equalize_paths(state, weights, window, input, output, marks);
-            Equalized {
-                state: next,
-                outcome: v,
-            }
-        }
+    ) {
+        return Equalized::refused(state, e);
     }
+    Equalized::served(equalize_paths(state, weights, window, input, output, marks))
 }

@@ -2,7 +2,7 @@
 ghost use Rattle.definition.specs.Packed.{equalizer, answered};
 ghost use Rattle.definition.specs.Paths.{plain, Promised};
 
-use types::{EqualizeState, Equalized, Outcome};
+use types::{EqualizeState, Equalized};
 
 // A block of samples by the plain path, or a refusal that leaves all as it was.
 pub fn equalize(
@@ -16,22 +16,15 @@ pub fn equalize(
     ensures { Promised plain (equalizer state weights.old window.old) input.now output.old marks.old
         (answered result weights.new window.new output.new marks.new) }
 {
-    let v = record_verdict::verdict(
+    if let Err(e) = record_verdict::verdict(
         state,
         weights,
         window,
         input.len(),
         output.len(),
         marks.len(),
-    );
-    match v {
-        Outcome::Refused(_) => Equalized { state, outcome: v },
-        Outcome::Served => {
-            let next = plain::block(state, weights, window, input, output, marks);
-            Equalized {
-                state: next,
-                outcome: v,
-            }
-        }
+    ) {
+        return Equalized::refused(state, e);
     }
+    Equalized::served(plain::block(state, weights, window, input, output, marks))
 }

@@ -4,7 +4,7 @@ use mathlib.Core.Bool.{Bool, true, false}
 use lib.Ieee.{Float, nan, inf, fin, is_nan, ne}
 use Rattle.types.specs.declared.EqualizeState.{EqualizeState}
 use Rattle.types.specs.declared.Error.TheVariants.{MuCma, MuDd}
-use Rattle.types.specs.declared.Outcome.TheVariants.{Served, Refused}
+use Rattle.std.specs.Prelude.{Ok, Err}
 use Rattle.types.specs.Bits.{zero32}
 use Rattle.definition.specs.Floats.{max_freq, flush, clip}
 use Rattle.definition.specs.Packed.{settled}
@@ -16,19 +16,19 @@ use Rattle.record_rules.proofs.Bits.{is_nan_lem, no_nan}
 -- ---- the step sizes
 
 module _ (s : EqualizeState) (mu : Float) (b : Bool) (e : b ≡ mu_fits mu) where
-  pub cma-no : b ≡ false → settled (record { state = s; outcome = Refused MuCma }) ≡ set_mu_cma_def s mu
+  pub cma-no : b ≡ false → settled (record { state = s; outcome = Err MuCma }) ≡ set_mu_cma_def s mu
   unfolding set_mu_cma_def
   cma-no h = rw (← e, h)
 
-  pub cma-yes : b ≡ true → settled (record { state = with_params s (with_mus s.params mu s.params.mu_dd); outcome = Served }) ≡ set_mu_cma_def s mu
+  pub cma-yes : b ≡ true → settled (record { state = with_params s (with_mus s.params mu s.params.mu_dd); outcome = (Ok tt) }) ≡ set_mu_cma_def s mu
   unfolding set_mu_cma_def
   cma-yes h = rw (← e, h)
 
-  pub dd-no : b ≡ false → settled (record { state = s; outcome = Refused MuDd }) ≡ set_mu_dd_def s mu
+  pub dd-no : b ≡ false → settled (record { state = s; outcome = Err MuDd }) ≡ set_mu_dd_def s mu
   unfolding set_mu_dd_def
   dd-no h = rw (← e, h)
 
-  pub dd-yes : b ≡ true → settled (record { state = with_params s (with_mus s.params s.params.mu_cma mu); outcome = Served }) ≡ set_mu_dd_def s mu
+  pub dd-yes : b ≡ true → settled (record { state = with_params s (with_mus s.params s.params.mu_cma mu); outcome = (Ok tt) }) ≡ set_mu_dd_def s mu
   unfolding set_mu_dd_def
   dd-yes h = rw (← e, h)
 

@@ -11,11 +11,10 @@ use lib.Ieee.{Float}
 use Rattle.types.specs.declared.LoopGains.{LoopGains}
 use Rattle.types.specs.declared.EqParams.{EqParams}
 use Rattle.types.specs.declared.EqualizeState.{EqualizeState}
-use Rattle.types.specs.declared.Fresh.TheVariants.{Made, NotMade}
+use Rattle.std.specs.Prelude.{Ok, Err}
+use Rattle.definition.specs.Refusals.{Outcome}
 use Rattle.types.specs.declared.Error.{Error}
 use Rattle.types.specs.declared.Error.TheVariants.{Odd, Feedback, Taps, Record}
-use Rattle.types.specs.declared.Outcome.{Outcome}
-use Rattle.types.specs.declared.Outcome.TheVariants.{Served, Refused}
 use Rattle.types.specs.Start.{start_state}
 use Rattle.definition.specs.Slices.{zeros, start_weights}
 use Rattle.definition.specs.Packed.{equalizer, made, reset_to}
@@ -37,7 +36,7 @@ fits_some n h = leb→le 3 n (subst T (sym (both (eqb (n % 2) 1) (leb 3 n) (both
 
 module _ (p : EqParams) (w h : List Float) (v : Outcome) (e : v ≡ new_verdict p (length w) (length h)) where
   -- what `start_over` asks
-  pub new-fits : v ≡ Served → (f : ℕ) → f ≡ length w / 2 - p.feedback_taps
+  pub new-fits : v ≡ (Ok tt) → (f : ℕ) → f ≡ length w / 2 - p.feedback_taps
       → (length w ≡ 2 * (length w / 2)) × ((length h ≡ 2 * (length w / 2)) × ((1 ≤ f) × (f ≤ length w / 2)))
   unfolding new_verdict new_tests
   new-fits d f a =
@@ -52,28 +51,28 @@ module _ (p : EqParams) (w h : List Float) (v : Outcome) (e : v ≡ new_verdict 
       let B : 3 ≤ length w / 2 - p.feedback_taps = fits_some _ z.0 in
       (omega arith, (omega arith, (omega arith, omega arith)))
 
-  pub new-refused : (x : Error) → v ≡ Refused x → made (NotMade x) w h ≡ new_def p w h
+  pub new-refused : (x : Error) → v ≡ Err x → made (Err x) w h ≡ new_def p w h
   unfolding new_def
   new-refused x d = rw (← e, d)
 
-  pub new-done : v ≡ Served → (f : ℕ) (t : EqualizeState) (w' h' : List Float) → f ≡ length w / 2 - p.feedback_taps → t ≡ fresh_state p
-      → (w' ≡ start_weights (length w / 2) (f / 2)) × (h' ≡ zeros (2 * (length w / 2))) → made (Made t) w' h' ≡ new_def p w h
+  pub new-done : v ≡ (Ok tt) → (f : ℕ) (t : EqualizeState) (w' h' : List Float) → f ≡ length w / 2 - p.feedback_taps → t ≡ fresh_state p
+      → (w' ≡ start_weights (length w / 2) (f / 2)) × (h' ≡ zeros (2 * (length w / 2))) → made (Ok t) w' h' ≡ new_def p w h
   unfolding new_def start_over fresh_state start_state
   new-done d f t w' h' a b c = rw (← e, d, b, c.0, c.1, a)
 
 -- ---- reset
 
 module _ (s : EqualizeState) (w h : List Float) (v : Outcome) (p : v ≡ reset_verdict (equalizer s w h)) where
-  pub reset-refused : (e : Error) → v ≡ Refused e → reset_to (record { state = s; outcome = v }) w h ≡ reset_def (equalizer s w h)
+  pub reset-refused : (e : Error) → v ≡ Err e → reset_to (record { state = s; outcome = v }) w h ≡ reset_def (equalizer s w h)
   unfolding reset_def
   reset-refused e d = rw (← p, d)
 
-  pub reset-done : v ≡ Served → (f : ℕ) (t : EqualizeState) (w' h' : List Float) → f ≡ length w / 2 - s.params.feedback_taps → t ≡ start_state s.params s.kp s.ki
+  pub reset-done : v ≡ (Ok tt) → (f : ℕ) (t : EqualizeState) (w' h' : List Float) → f ≡ length w / 2 - s.params.feedback_taps → t ≡ start_state s.params s.kp s.ki
       → (w' ≡ start_weights (length w / 2) (f / 2)) × (h' ≡ zeros (2 * (length w / 2))) → reset_to (record { state = t; outcome = v }) w' h' ≡ reset_def (equalizer s w h)
   unfolding reset_def start_over start_state
   reset-done d f t w' h' a b c = rw (← p, d, b, c.0, c.1, a)
 
-  pub reset-fits : v ≡ Served → (f : ℕ) → f ≡ length w / 2 - s.params.feedback_taps
+  pub reset-fits : v ≡ (Ok tt) → (f : ℕ) → f ≡ length w / 2 - s.params.feedback_taps
       → (length w ≡ 2 * (length w / 2)) × ((length h ≡ 2 * (length w / 2)) × ((1 ≤ f) × (f ≤ length w / 2)))
   unfolding reset_verdict rule_r1
   reset-fits d f a =

@@ -7,7 +7,7 @@ ghost use Rattle.definition.specs.Slices.{zeros, start_weights};
 ghost use Rattle.definition.specs.Packed.{equalizer, made, reset_to, settled};
 ghost use Rattle.definition.specs.Calls.{fresh_state, new_def, reset_def, set_mu_cma_def, set_mu_dd_def, set_frequency_def};
 
-use types::{EqParams, EqualizeState, Equalized, Error, Fresh, Outcome};
+use types::{EqParams, EqualizeState, Equalized, Error};
 
 // The start weights and a window of zeros: n taps, f of them forward.
 fn start_over(w: &mut [f32], h: &mut [f32], n: usize, f: usize)
@@ -27,40 +27,31 @@ fn fresh_state(params: EqParams) -> EqualizeState
 }
 
 // A new equalizer: weights and window are set, and the record is returned. Refusals 1 to 7 leave both as they were.
-pub fn new(weights: &mut [f32], window: &mut [f32], params: EqParams) -> Fresh
+pub fn new(
+    weights: &mut [f32],
+    window: &mut [f32],
+    params: EqParams,
+) -> Result<EqualizeState, Error>
     ensures { made result weights.new window.new ≡ new_def params weights.old window.old }
 {
-    let v = record_verdict::new_verdict(params, weights.len(), window.len());
-    match v {
-        Outcome::Refused(e) => Fresh::NotMade(e),
-        Outcome::Served => {
-            let n = weights.len() / 2;
-            let f = record_rules::forward(n, params.feedback_taps);
-            start_over(weights, window, n, f);
-            Fresh::Made(fresh_state(params))
-        }
-    }
+    record_verdict::new_verdict(params, weights.len(), window.len())?;
+    let n = weights.len() / 2;
+    let f = record_rules::forward(n, params.feedback_taps);
+    start_over(weights, window, n, f);
+    Ok(fresh_state(params))
 }
 
 // Back to the start, with the settings and gains kept. Refusals 1 and 8.
 pub fn reset(state: EqualizeState, weights: &mut [f32], window: &mut [f32]) -> Equalized
     ensures { reset_to result weights.new window.new ≡ reset_def (equalizer state weights.old window.old) }
 {
-    let v = record_verdict::reset_verdict(state, weights, window);
-    match v {
-        Outcome::Refused(_) => Equalized { state, outcome: v },
-        Outcome::Served => {
-            let p = state.params;
-            let n = weights.len() / 2;
-            let f = record_rules::forward(n, p.feedback_taps);
-            start_over(weights, window, n, f);
-            let fresh = EqualizeState::fresh(p, state.kp, state.ki);
-            Equalized {
-                state: fresh,
-                outcome: v,
-            }
-        }
+    if let Err(e) = record_verdict::reset_verdict(state, weights, window) {
+        return Equalized::refused(state, e);
     }
+    let n = weights.len() / 2;
+    let f = record_rules::forward(n, state.params.feedback_taps);
+    start_over(weights, window, n, f);
+    Equalized::served(EqualizeState::fresh(state.params, state.kp, state.ki))
 }
 
 // Another step size for Cma, 0.00001 to 1; else refusal 5.
@@ -68,17 +59,11 @@ pub fn set_mu_cma(state: EqualizeState, mu: f32) -> Equalized
     ensures { settled result ≡ set_mu_cma_def state mu }
 {
     if !record_rules::check_mu(mu) {
-        return Equalized {
-            state,
-            outcome: Outcome::Refused(Error::MuCma),
-        };
+        return Equalized::refused(state, Error::MuCma);
     }
     let mut next = state;
     next.params.mu_cma = mu;
-    Equalized {
-        state: next,
-        outcome: Outcome::Served,
-    }
+    Equalized::served(next)
 }
 
 // Another step size for Decision; else refusal 6.
@@ -86,17 +71,11 @@ pub fn set_mu_dd(state: EqualizeState, mu: f32) -> Equalized
     ensures { settled result ≡ set_mu_dd_def state mu }
 {
     if !record_rules::check_mu(mu) {
-        return Equalized {
-            state,
-            outcome: Outcome::Refused(Error::MuDd),
-        };
+        return Equalized::refused(state, Error::MuDd);
     }
     let mut next = state;
     next.params.mu_dd = mu;
-    Equalized {
-        state: next,
-        outcome: Outcome::Served,
-    }
+    Equalized::served(next)
 }
 
 // The tracker's frequency from outside: flushed, held to its limit, and 0 for a NaN. Never refused.

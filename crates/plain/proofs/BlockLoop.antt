@@ -6,7 +6,7 @@ use native.Mathlib.Omega.{arith}
 use lib.ListN.{length, get_or, set, length-set}
 use lib.Ieee.{Float, nan}
 use Rattle.types.specs.declared.C32.{C32}
-use Rattle.types_numbers.specs.Numbers.{mark_number}
+use Rattle.types.specs.Numbers.{mark_number}
 use Rattle.definition.specs.Floats.{complex}
 use Rattle.definition.specs.Slices.{samples_of}
 use Rattle.definition.specs.Packed.{equalizer, ServedBlock, Ran}

@@ -7,7 +7,7 @@ ghost use Rattle.definition.specs.Packed.{equalizer};
 ghost use Rattle.definition.specs.Rules.{rules as rulesDef};
 ghost use Rattle.definition.specs.Calls.{even, tap_tests, setting_tests, new_verdict, reset_verdict, verdict_def};
 
-use types::{EqParams, EqualizeState, Error, Outcome};
+use types::{EqParams, EqualizeState, Error};
 
 // Test 1 of weights and window.
 pub fn both_even(lw: usize, lh: usize) -> bool
@@ -24,81 +24,81 @@ pub fn all_even(lw: usize, lh: usize, xs: usize, ys: usize) -> bool
 }
 
 // Tests 5 to 7: the settings.
-fn settings_verdict(p: EqParams) -> Outcome
+fn settings_verdict(p: EqParams) -> Result<(), Error>
     ensures { result ≡ first_of (setting_tests p) }
 {
     if !record_rules::check_mu(p.mu_cma) {
-        return Outcome::Refused(Error::MuCma);
+        return Err(Error::MuCma);
     }
     if !record_rules::check_mu(p.mu_dd) {
-        return Outcome::Refused(Error::MuDd);
+        return Err(Error::MuDd);
     }
     if !record_rules::bw_fits(p.phase_bw) {
-        return Outcome::Refused(Error::Bandwidth);
+        return Err(Error::Bandwidth);
     }
-    Outcome::Served
+    Ok(())
 }
 
 // Tests 2 to 7: the taps, then the settings.
-fn taps_verdict(p: EqParams, lw: usize, lh: usize) -> Outcome
+fn taps_verdict(p: EqParams, lw: usize, lh: usize) -> Result<(), Error>
     ensures { result ≡ first_of (tap_tests p lw lh ++ setting_tests p) }
 {
     let len = lw / 2;
     let got = lh / 2;
     let m = p.feedback_taps;
     if !record_rules::feedback_fits(m) {
-        return Outcome::Refused(Error::Feedback);
+        return Err(Error::Feedback);
     }
     if !record_rules::taps_fit(record_rules::forward(len, m)) {
-        return Outcome::Refused(Error::Taps);
+        return Err(Error::Taps);
     }
     if got != len {
-        return Outcome::Refused(Error::Window { expected: len, got });
+        return Err(Error::Window { expected: len, got });
     }
     settings_verdict(p)
 }
 
 // Tests 1 to 7 of new, by the lengths of weights and window.
-pub fn new_verdict(p: EqParams, lw: usize, lh: usize) -> Outcome
+pub fn new_verdict(p: EqParams, lw: usize, lh: usize) -> Result<(), Error>
     ensures { result ≡ new_verdict p lw lh }
 {
     if !both_even(lw, lh) {
-        return Outcome::Refused(Error::Odd);
+        return Err(Error::Odd);
     }
     taps_verdict(p, lw, lh)
 }
 
 // Tests 1 and 8 of reset.
-pub fn reset_verdict(s: EqualizeState, w: &[f32], h: &[f32]) -> Outcome
+pub fn reset_verdict(s: EqualizeState, w: &[f32], h: &[f32]) -> Result<(), Error>
     ensures { result ≡ reset_verdict (equalizer s w.now h.now) }
 {
     if !both_even(w.len(), h.len()) {
-        return Outcome::Refused(Error::Odd);
+        return Err(Error::Odd);
     }
     if !(record_rules::rule_r1(s, w, h) & record_rules::rule_r2(s)) {
-        return Outcome::Refused(Error::Record);
+        return Err(Error::Record);
     }
-    Outcome::Served
+    Ok(())
 }
 
 // Tests 1, 8, 9 and 10 of equalizing, by the lengths of input, output and marks.
-pub fn verdict(s: EqualizeState, w: &[f32], h: &[f32], xs: usize, ys: usize, ms: usize) -> Outcome
+pub fn verdict(s: EqualizeState, w: &[f32], h: &[f32], xs: usize, ys: usize, ms: usize) -> Result<(), Error>
     ensures { result ≡ verdict_def (rulesDef (equalizer s w.now h.now))
         (record { weights = length w.now; window = length h.now; input = xs; output = ys; marks = ms }) }
 {
     if !all_even(w.len(), h.len(), xs, ys) {
-        return Outcome::Refused(Error::Odd);
+        return Err(Error::Odd);
     }
     if !record_rules::rules(s, w, h) {
-        return Outcome::Refused(Error::Record);
+        return Err(Error::Record);
     }
     let expected = xs / 2;
     let got = ys / 2;
     if got != expected {
-        return Outcome::Refused(Error::Output { expected, got });
+        return Err(Error::Output { expected, got });
     }
     if ms != expected {
-        return Outcome::Refused(Error::Marks { expected, got: ms });
+        return Err(Error::Marks { expected, got: ms });
     }
-    Outcome::Served
+    Ok(())
 }

@@ -8,7 +8,7 @@ use native.Mathlib.Decide.{dec_lt}
 use lib.ListN.{length, get_or, set, length-set}
 use lib.Ieee.{Float, nan}
 use Rattle.types.specs.declared.EqualizeState.{EqualizeState}
-use Rattle.types_numbers.specs.Numbers.{mark_number}
+use Rattle.types.specs.Numbers.{mark_number}
 use Rattle.definition.specs.Floats.{complex}
 use Rattle.definition.specs.Slices.{re_at, im_at}
 use Rattle.definition.specs.Packed.{equalizer}

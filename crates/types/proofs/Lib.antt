@@ -1,2 +1,3 @@
--- Laws that belong to no one function: the start.
+-- Laws that belong to no one function: the start; a case and its number.
 pub mod Starts
+pub mod Numbered

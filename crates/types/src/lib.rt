@@ -2,9 +2,14 @@
 // defined in the crate definition, from document 01.
 #![tactic(auto)]
 
+mod numbers;
+mod words;
+
 ghost use Rattle.std.specs.Prelude.{◌≡◌, ◌-◌, ◌/◌, length};
 ghost use Rattle.types.specs.Bits.{f32 as f32Of, f64 as f64Of};
 ghost use Rattle.types.specs.Start.{start_mode, start_state};
+
+pub use numbers::{Lengths, UnknownNumber};
 
 // A complex sample: two f32, real part first.
 #[repr(C)]
@@ -31,20 +36,20 @@ pub struct LoopGains {
 }
 
 // A square QAM constellation.
-#[derive(Clone, Copy)]
+#[derive(Clone, Copy, Debug, PartialEq, Eq)]
 pub enum Qam {
     Qam16,
     Qam64,
 }
 
 // The adaptation mode: blind by the constant modulus, or against the nearest point.
-#[derive(Clone, Copy)]
+#[derive(Clone, Copy, Debug, PartialEq, Eq)]
 pub enum EqMode {
     Cma,
     Decision,
 }
 
-#[derive(Clone, Copy)]
+#[derive(Clone, Copy, Debug, PartialEq, Eq)]
 pub enum EqConstellation {
     Bpsk,
     Qpsk,
@@ -78,7 +83,7 @@ pub struct EqualizeState {
 }
 
 // Refusals 1 to 10, in this order. Lengths are in complex samples, of marks in bytes.
-#[derive(Clone, Copy)]
+#[derive(Clone, Copy, Debug, PartialEq, Eq)]
 pub enum Error {
     Odd,
     Feedback,
@@ -92,39 +97,49 @@ pub enum Error {
     Marks { expected: usize, got: usize },
 }
 
-#[derive(Clone, Copy)]
-pub enum Outcome {
-    Served,
-    Refused(Error),
-}
-
-// What equalizing, reset and the setters return: the record, and whether the call was served.
+// What equalizing, reset and the setters return: the record, and whether the call was served. The record comes back from a refusal too, as it was:
+// so this is no `Result` of a record.
 #[derive(Clone, Copy)]
 pub struct Equalized {
     pub state: EqualizeState,
-    pub outcome: Outcome,
-}
-
-// What new returns.
-#[derive(Clone, Copy)]
-pub enum Fresh {
-    Made(EqualizeState),
-    NotMade(Error),
+    pub outcome: Result<(), Error>,
 }
 
 // Whether a sample was heard: blank where it is not finite, spilled where it is finite and its filter sum is not.
-#[derive(Clone, Copy)]
+#[derive(Clone, Copy, Debug, PartialEq, Eq)]
 pub enum Mark {
     Heard,
     Blank,
     Spilled,
 }
 
-// The update of the weights: a step with two floats, or none.
+// The update of the weights: a step with two floats, or none. The specification names this form, in place of an `Option`.
 #[derive(Clone, Copy)]
 pub enum Update {
     Step(f32, f32),
     Hold,
+}
+
+impl Equalized {
+    // The answer of a call that was served.
+    pub fn served(state: EqualizeState) -> Equalized
+        ensures { result ≡ record { state = state; outcome = Ok tt } }
+    {
+        Equalized {
+            state,
+            outcome: Ok(()),
+        }
+    }
+
+    // The answer of a call that was refused: the record as it was.
+    pub fn refused(state: EqualizeState, error: Error) -> Equalized
+        ensures { result ≡ record { state = state; outcome = Err error } }
+    {
+        Equalized {
+            state,
+            outcome: Err(error),
+        }
+    }
 }
 
 impl C32 {
@@ -133,10 +148,12 @@ impl C32 {
 
 impl EqParams {
     // The cma_symbols of a mode that never switches.
-    pub const NEVER_SWITCH: u32 = 4294967295;
+    pub const NEVER_SWITCH: u32 = u32::MAX;
+}
 
+impl Default for EqParams {
     // QPSK, no feedback, mu_cma 0.05, mu_dd 0.02, 1000 symbols in Cma, bandwidth 0.02.
-    pub fn default() -> EqParams
+    fn default() -> EqParams
         ensures { result ≡ record { constellation = EqConstellation.Qpsk; feedback_taps = 0; mu_cma = f32Of 0x3d4c_cccd; mu_dd = f32Of 0x3ca3_d70a; cma_symbols = 1000; phase_bw = f64Of 0x3f94_7ae1_47ae_147b } }
     {
         EqParams {
@@ -174,12 +191,11 @@ impl EqualizeState {
     pub fn fresh(params: EqParams, kp: f32, ki: f32) -> EqualizeState
         ensures { result ≡ start_state params kp ki }
     {
-        let mode = start_mode(params.cma_symbols);
         EqualizeState {
             params,
             kp,
             ki,
-            mode,
+            mode: start_mode(params.cma_symbols),
             count: 0,
             mse: EqualizeState::MSE_START,
             phase: 0,
@@ -203,9 +219,7 @@ impl EqualizeState {
     pub fn taps(self, weights: &[f32]) -> usize
         ensures { result ≡ length weights.now / 2 - self.params.feedback_taps }
     {
-        let n = weights.len() / 2;
-        let m = self.params.feedback_taps;
-        if m <= n { n - m } else { 0 }
+        (weights.len() / 2).saturating_sub(self.params.feedback_taps)
     }
 
     pub fn feedback_taps(self) -> usize
@@ -223,8 +237,7 @@ impl EqualizeState {
     pub fn constellation(self) -> EqConstellation
         ensures { result ≡ self.params.constellation }
     {
-        let p = self.params;
-        p.constellation
+        self.params.constellation
     }
 
     pub fn mu_cma(self) -> f32
@@ -267,33 +280,4 @@ impl EqualizeState {
             ki: self.ki,
         }
     }
-}
-
-// The numbers of the marks: the bytes that a caller reads.
-impl Mark {
-    pub const HEARD: u8 = 0;
-
-    pub const BLANK: u8 = 1;
-
-    pub const SPILLED: u8 = 2;
-}
-
-// The numbers of the modes.
-impl EqMode {
-    pub const CMA: u32 = 0;
-
-    pub const DECISION: u32 = 1;
-}
-
-// The numbers of the constellations.
-impl EqConstellation {
-    pub const BPSK: u32 = 0;
-
-    pub const QPSK: u32 = 1;
-
-    pub const PSK8: u32 = 2;
-
-    pub const QAM16: u32 = 3;
-
-    pub const QAM64: u32 = 4;
 }

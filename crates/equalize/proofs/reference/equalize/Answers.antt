@@ -3,10 +3,10 @@ use Rattle.equalize.proofs.Calls.{call-shaped, call-refused, call-served}
 use Rattle.equalize.proofs.reference.equalize.Goals as goal
 
 pub block-next-requires : goal.block-next-requires
-block-next-requires c = call-shaped _ _ _ _ _ _ _ c.verdict-v.ensures c.in-Served.is
+block-next-requires c = call-shaped _ _ _ _ _ _ _ c.verdict-v.ensures c.in-Ok.is
 
-pub returns-in-Refused : goal.returns-in-Refused
-returns-in-Refused c = call-refused _ _ _ _ _ _ _ c.verdict-v.ensures _ c.in-Refused.is
+pub returns-in-Err : goal.returns-in-Err
+returns-in-Err c = call-refused _ _ _ _ _ _ _ c.verdict-v.ensures _ c.in-Err.is
 
-pub returns-in-Served : goal.returns-in-Served
-returns-in-Served c = call-served _ _ _ _ _ _ _ c.verdict-v.ensures c.in-Served.is _ _ _ _ _ c.block-next.ensures
+pub returns-in-Ok : goal.returns-in-Ok
+returns-in-Ok c = call-served _ _ _ _ _ _ _ c.verdict-v.ensures c.in-Ok.is _ _ _ _ _ c.block-next.ensures

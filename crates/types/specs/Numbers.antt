@@ -1,5 +1,5 @@
 -- The number of each case of an enum, said once: the maps back go through the list of the cases.
-use Rattle.std.specs.Prelude.{ℕ, Bool, false, cond, ◌||◌, List, [], ◌∷◌, eqb}
+use Rattle.std.specs.Prelude.{ℕ, Bool, false, cond, ◌||◌, List, [], ◌∷◌, eqb, Option, Some, None, Result, Ok, Err}
 use Rattle.types.specs.declared.Mark.{Mark}
 use Rattle.types.specs.declared.Mark.TheVariants.{Heard, Blank, Spilled}
 use Rattle.types.specs.declared.EqMode.{EqMode}
@@ -8,6 +8,8 @@ use Rattle.types.specs.declared.EqConstellation.{EqConstellation}
 use Rattle.types.specs.declared.EqConstellation.TheVariants.{Bpsk, Qpsk, Psk8, Qam16, Qam64}
 use Rattle.types.specs.declared.Error.{Error}
 use Rattle.types.specs.declared.Error.TheVariants.{Odd, Feedback, Taps, Window, MuCma, MuDd, Bandwidth, Record, Output, Marks}
+use Rattle.types.specs.declared.numbers.UnknownNumber.{UnknownNumber}
+use Rattle.types.specs.declared.numbers.Lengths.{Lengths}
 
 -- the table of document 01: cause, number
 abbrev pub error_number : Error → ℕ
@@ -21,6 +23,19 @@ error_number Bandwidth = 7
 error_number Record = 8
 error_number (Output expected got) = 9
 error_number (Marks expected got) = 10
+
+-- what is returned beside the number: two lengths, or nothing
+abbrev pub lengths_of : Error → Option Lengths
+lengths_of Odd = None
+lengths_of Feedback = None
+lengths_of Taps = None
+lengths_of (Window expected got) = Some (record { expected = expected; got = got })
+lengths_of MuCma = None
+lengths_of MuDd = None
+lengths_of Bandwidth = None
+lengths_of Record = None
+lengths_of (Output expected got) = Some (record { expected = expected; got = got })
+lengths_of (Marks expected got) = Some (record { expected = expected; got = got })
 
 abbrev pub mode_number : EqMode → ℕ
 mode_number Cma = 0
@@ -78,3 +93,17 @@ known_mark n = known mark_number marks n
 
 abbrev pub mark_of : ℕ → Mark
 mark_of n = case_of mark_number marks Spilled n
+
+-- ---- read: the case, or that no case has the number
+
+abbrev pub read : {A : Type 0} → (A → ℕ) → List A → A → ℕ → Result A UnknownNumber
+read f l d n = cond (known f l n) (Ok (case_of f l d n)) (Err (record { number = n }))
+
+abbrev pub read_constellation : ℕ → Result EqConstellation UnknownNumber
+read_constellation n = read constellation_number constellations Qam64 n
+
+abbrev pub read_mode : ℕ → Result EqMode UnknownNumber
+read_mode n = read mode_number modes Decision n
+
+abbrev pub read_mark : ℕ → Result Mark UnknownNumber
+read_mark n = read mark_number marks Spilled n

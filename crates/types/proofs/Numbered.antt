@@ -8,7 +8,7 @@ use Rattle.types.specs.declared.EqConstellation.{EqConstellation}
 use Rattle.types.specs.declared.EqConstellation.TheVariants.{Bpsk, Qpsk, Psk8, Qam16, Qam64}
 use Rattle.types.specs.declared.Error.{Error}
 use Rattle.types.specs.declared.Error.TheVariants.{Odd, Feedback, Taps, Window, MuCma, MuDd, Bandwidth, Record, Output, Marks}
-use Rattle.types_numbers.specs.Numbers.{error_number, mode_number, known_mode, mode_of, constellation_number, known_constellation, constellation_of}
+use Rattle.types.specs.Numbers.{error_number, mode_number, known_mode, mode_of, constellation_number, known_constellation, constellation_of}
 
 pub mode_known : (m : EqMode) → known_mode (mode_number m) ≡ true
 mode_known Cma = refl

@@ -1,2 +1,0 @@
--- What the contracts of the numbers cite.
-pub mod Numbers
