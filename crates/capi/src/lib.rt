@@ -5,7 +5,8 @@ ghost use Rattle.std.specs.Prelude.{◌≡◌};
 ghost use Rattle.capi_state.specs.Raw.{filter, new_raw, reset_raw, set_mu_cma_raw, set_mu_dd_raw, set_frequency_raw};
 ghost use Rattle.capi.specs.Raw.{block, eq_reference, eq_equalize, PromisedRaw};
 
-use capi_numbers::{EqRecord, EqReply, EqSettings, known_record, record_in, reply, unknown};
+use capi_numbers::{EqRecord, EqReply, EqSettings};
+use types::EqualizeState;
 
 // A new equalizer: weights and window are set. Refusals 1 to 8; the record is then all zeros.
 pub fn eq_new(settings: EqSettings, weights: &mut [f32], window: &mut [f32]) -> EqReply
@@ -54,15 +55,13 @@ pub fn eq_equalize(
     ensures { PromisedRaw eq_equalize raw weights.old window.old input.now output.old marks.old
         (block result weights.new window.new output.new marks.new) }
 {
-    if !known_record(raw) {
-        return unknown(
-            raw,
-            record_verdict::all_even(weights.len(), window.len(), input.len(), output.len()),
-        );
-    }
-    let state = record_in(raw);
+    let Ok(state) = EqualizeState::try_from(raw) else {
+        let evens =
+            record_verdict::all_even(weights.len(), window.len(), input.len(), output.len());
+        return EqReply::unknown(raw, evens);
+    };
     let e = equalize::equalize(state, weights, window, input, output, marks);
-    reply(e)
+    EqReply::from(e)
 }
 
 // A block of samples by the plain path. Refusals 1, 8, 9 and 10.
@@ -77,13 +76,11 @@ pub fn eq_reference(
     ensures { PromisedRaw eq_reference raw weights.old window.old input.now output.old marks.old
         (block result weights.new window.new output.new marks.new) }
 {
-    if !known_record(raw) {
-        return unknown(
-            raw,
-            record_verdict::all_even(weights.len(), window.len(), input.len(), output.len()),
-        );
-    }
-    let state = record_in(raw);
+    let Ok(state) = EqualizeState::try_from(raw) else {
+        let evens =
+            record_verdict::all_even(weights.len(), window.len(), input.len(), output.len());
+        return EqReply::unknown(raw, evens);
+    };
     let e = equalize::reference::equalize(state, weights, window, input, output, marks);
-    reply(e)
+    EqReply::from(e)
 }

@@ -1,7 +1,9 @@
 -- What the definitions give: a record goes in and out, and out and in, unchanged, and what a refused new hands back is never accepted. Assumes nothing.
 use Prim.Native.Nat.{ℕ}
 use mathlib.Core.Path.{◌≡◌, refl, sym}
-use mathlib.Core.Bool.{Bool, true, false, cond, ◌||◌}
+use mathlib.Core.Bool.{Bool, true, false, cond, ◌&&◌, ◌||◌}
+use native.Mathlib.Omega.{arith}
+use Rattle.std.specs.Prelude.{Result, Ok, Err}
 use mathlib.Core.List.{List, [], ◌∷◌}
 use lib.Dec.{eqb}
 use borrow.Author.Tests.{eqb-true}
@@ -11,11 +13,14 @@ use Rattle.types.specs.Numbers.{known, case_of, mode_number, modes, known_mode, 
 use Rattle.types.proofs.Numbered.{mode_known, mode_back, constellation_known, constellation_back}
 use Rattle.types.specs.declared.EqMode.TheVariants.{Decision}
 use Rattle.types.specs.declared.EqConstellation.TheVariants.{Qam64}
+use Rattle.types.specs.declared.EqParams.{EqParams}
 use Rattle.types.specs.declared.EqualizeState.{EqualizeState}
+use Rattle.types.specs.declared.numbers.UnknownNumber.{UnknownNumber}
 use Rattle.definition.specs.Rules.{mu_fits, rule_r2}
 use Rattle.definition_laws.proofs.Verdicts.{both, and_true}
+use Rattle.capi_numbers.specs.declared.EqSettings.{EqSettings}
 use Rattle.capi_numbers.specs.declared.EqRecord.{EqRecord}
-use Rattle.capi_numbers.specs.RawRecord.{known_settings, known_record, settings_in, record_in, settings_out, record_out, no_record, unknown}
+use Rattle.capi_numbers.specs.RawRecord.{known_settings, known_record, settings_in, record_in, read_settings, read_record, settings_out, record_out, no_record, unknown}
 
 -- a known number is that of its case
 pick_back : {A : Type 0} (f : A → ℕ) (a b : A) (n : ℕ) (t : Bool) → (t ≡ true → f a ≡ n) → (rest : Bool) → (rest ≡ true → f b ≡ n) → (t || rest) ≡ true → f (cond t a b) ≡ n
@@ -26,6 +31,42 @@ known_back : {A : Type 0} (f : A → ℕ) (l : List A) (d : A) (n : ℕ) → kno
 known_back f [] d n h = cc
 known_back f (a ∷ l) d n h =
     pick_back f a (case_of f l d n) n (eqb n (f a)) (λ e. sym (eqb-true n (f a) e)) (known f l n) (known_back f l d n) h
+
+-- what is read is the settings, or the record, of known numbers
+pub settings_ok : (p : EqSettings) (q : EqParams) → read_settings p ≡ Ok q → (known_settings p ≡ true) × (q ≡ settings_in p)
+settings_ok p q h = go (known_settings p) h
+  where
+    go : (b : Bool) → ◌≡◌ {A = Result EqParams UnknownNumber} (cond b (Ok (settings_in p)) (Err (record { number = p.constellation }))) (Ok q) → (b ≡ true) × (q ≡ settings_in p)
+    go true e = (refl, cc)
+    go false e = absurd (let z : ◌≡◌ {A = ℕ} 0 1 = cc in omega arith)
+
+pub settings_err : (p : EqSettings) (x : UnknownNumber) → read_settings p ≡ Err x → known_settings p ≡ false
+settings_err p x h = go (known_settings p) h
+  where
+    go : (b : Bool) → ◌≡◌ {A = Result EqParams UnknownNumber} (cond b (Ok (settings_in p)) (Err (record { number = p.constellation }))) (Err x) → b ≡ false
+    go true e = absurd (let z : ◌≡◌ {A = ℕ} 0 1 = cc in omega arith)
+    go false e = refl
+
+abbrev read_by : EqRecord → Bool → Bool → Result EqualizeState UnknownNumber
+read_by r a b = cond a (cond b (Ok (record_in r)) (Err (record { number = r.mode }))) (Err (record { number = r.settings.constellation }))
+
+pub record_ok : (r : EqRecord) (s : EqualizeState) → read_record r ≡ Ok s → (known_record r ≡ true) × (s ≡ record_in r)
+unfolding known_record
+record_ok r s h = go (known_settings r.settings) (known_mode r.mode) h
+  where
+    go : (a b : Bool) → read_by r a b ≡ Ok s → ((a && b) ≡ true) × (s ≡ record_in r)
+    go true true e = (refl, cc)
+    go true false e = absurd (let z : ◌≡◌ {A = ℕ} 0 1 = cc in omega arith)
+    go false b e = absurd (let z : ◌≡◌ {A = ℕ} 0 1 = cc in omega arith)
+
+pub record_err : (r : EqRecord) (x : UnknownNumber) → read_record r ≡ Err x → known_record r ≡ false
+unfolding known_record
+record_err r x h = go (known_settings r.settings) (known_mode r.mode) h
+  where
+    go : (a b : Bool) → read_by r a b ≡ Err x → (a && b) ≡ false
+    go true true e = absurd (let z : ◌≡◌ {A = ℕ} 0 1 = cc in omega arith)
+    go true false e = refl
+    go false b e = refl
 
 -- the record, in and out again
 pub kept : (r : EqRecord) → known_record r ≡ true → record_out (record_in r) ≡ r

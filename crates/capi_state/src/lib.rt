@@ -4,70 +4,64 @@
 ghost use Rattle.std.specs.Prelude.{◌≡◌};
 ghost use Rattle.capi_state.specs.Raw.{filter, new_raw, reset_raw, set_mu_cma_raw, set_mu_dd_raw, set_frequency_raw};
 
-use capi_numbers::{
-    EqRecord, EqReply, EqSettings, fresh_reply, known_record, known_settings, no_record, record_in,
-    record_out, reply, served, settings_in, unknown,
-};
+use capi_numbers::{EqRecord, EqReply, EqSettings};
+use types::{EqParams, EqualizeState};
 
 // A new equalizer.
+#[tactic(auto, using(crate::proofs::Laws::new_unknown, crate::proofs::Laws::new_known))]
 pub fn new(settings: EqSettings, weights: &mut [f32], window: &mut [f32]) -> EqReply
     ensures { filter result weights.new window.new ≡ new_raw settings weights.old window.old }
 {
-    if !known_settings(settings) {
-        return unknown(
-            no_record(),
+    let Ok(params) = EqParams::try_from(settings) else {
+        return EqReply::unknown(
+            EqRecord::none(),
             record_verdict::both_even(weights.len(), window.len()),
         );
-    }
-    let params = settings_in(settings);
-    let f = equalize_state::new(weights, window, params);
-    fresh_reply(f)
+    };
+    EqReply::from(equalize_state::new(weights, window, params))
 }
 
 // Back to the start.
+#[tactic(auto, using(crate::proofs::Laws::reset_unknown, crate::proofs::Laws::reset_known))]
 pub fn reset(raw: EqRecord, weights: &mut [f32], window: &mut [f32]) -> EqReply
     ensures { filter result weights.new window.new ≡ reset_raw raw weights.old window.old }
 {
-    if !known_record(raw) {
-        return unknown(raw, record_verdict::both_even(weights.len(), window.len()));
-    }
-    let state = record_in(raw);
-    let e = equalize_state::reset(state, weights, window);
-    reply(e)
+    let Ok(state) = EqualizeState::try_from(raw) else {
+        return EqReply::unknown(raw, record_verdict::both_even(weights.len(), window.len()));
+    };
+    EqReply::from(equalize_state::reset(state, weights, window))
 }
 
 // Another step size for Cma.
+#[tactic(auto, using(crate::proofs::Laws::cma_unknown, crate::proofs::Laws::cma_known))]
 pub fn set_mu_cma(raw: EqRecord, mu: f32) -> EqReply
     ensures { result ≡ set_mu_cma_raw raw mu }
 {
-    if !known_record(raw) {
-        return unknown(raw, true);
-    }
-    let state = record_in(raw);
-    let e = equalize_state::set_mu_cma(state, mu);
-    reply(e)
+    let Ok(state) = EqualizeState::try_from(raw) else {
+        return EqReply::unknown(raw, true);
+    };
+    EqReply::from(equalize_state::set_mu_cma(state, mu))
 }
 
 // Another step size for Decision.
+#[tactic(auto, using(crate::proofs::Laws::dd_unknown, crate::proofs::Laws::dd_known))]
 pub fn set_mu_dd(raw: EqRecord, mu: f32) -> EqReply
     ensures { result ≡ set_mu_dd_raw raw mu }
 {
-    if !known_record(raw) {
-        return unknown(raw, true);
-    }
-    let state = record_in(raw);
-    let e = equalize_state::set_mu_dd(state, mu);
-    reply(e)
+    let Ok(state) = EqualizeState::try_from(raw) else {
+        return EqReply::unknown(raw, true);
+    };
+    EqReply::from(equalize_state::set_mu_dd(state, mu))
 }
 
 // The tracker's frequency from outside.
+#[tactic(auto, using(crate::proofs::Laws::frequency_unknown, crate::proofs::Laws::frequency_known))]
 pub fn set_frequency(raw: EqRecord, freq: f32) -> EqReply
     ensures { result ≡ set_frequency_raw raw freq }
 {
-    if !known_record(raw) {
-        return unknown(raw, true);
-    }
-    let state = record_in(raw);
+    let Ok(state) = EqualizeState::try_from(raw) else {
+        return EqReply::unknown(raw, true);
+    };
     let next = equalize_state::set_frequency(state, freq);
-    served(record_out(next))
+    EqReply::served(EqRecord::from(next))
 }

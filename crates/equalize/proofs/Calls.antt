@@ -5,6 +5,7 @@ use mathlib.Core.List.{List, []}
 use native.Mathlib.Omega.{arith}
 use lib.Ieee.{Float}
 use Rattle.types.specs.declared.EqualizeState.{EqualizeState}
+use Rattle.types.specs.declared.Equalized.{Equalized}
 use Rattle.types.specs.declared.Error.{Error}
 use Rattle.std.specs.Prelude.{Ok, Err}
 use Rattle.definition.specs.Refusals.{Outcome}
@@ -16,19 +17,19 @@ use Rattle.definition.specs.Calls.{lengths_of, verdict_def, served_by, equalize_
 use Rattle.definition_laws.proofs.Verdicts.{served_fits}
 
 module _ (s : EqualizeState) (w h xs ys : List Float) (ms : List ℕ) (v : Outcome) (p : v ≡ verdict_def (rules (equalizer s w h)) (lengths_of (equalizer s w h) xs ys ms)) where
-  pub call-shaped : v ≡ (Ok tt) → ServedBlock (equalizer s w h) xs ys ms
-  call-shaped e =
+  pub call_shaped : v ≡ (Ok tt) → ServedBlock (equalizer s w h) xs ys ms
+  call_shaped e =
       let f = served_fits (equalizer s w h) xs ys ms (sym p ∙ e) in
       record { accepted = f.accepted; input = omega (arith, f.even_in, f.marks); output = omega (arith, f.even_in, f.even_out, f.marks, f.output) }
 
-  pub call-refused : (e : Error) → v ≡ Err e → answered (record { state = s; outcome = v }) w h ys ms ≡ equalize_def (equalizer s w h) xs ys ms
+  pub call_refused : (e : Error) (r : Equalized) → v ≡ Err e → r ≡ record { state = s; outcome = Err e } → answered r w h ys ms ≡ equalize_def (equalizer s w h) xs ys ms
   unfolding equalize_def
-  call-refused e d = rw (← p, d)
+  call_refused e r d z = rw (z, ← p, d)
 
-  pub call-served : v ≡ (Ok tt) → (t : EqualizeState) (w' h' ys' : List Float) (ms' : List ℕ) → Ran (run_def (equalizer s w h) (samples_of xs)) (equalizer t w' h') ys' ms'
-      → answered (record { state = t; outcome = v }) w' h' ys' ms' ≡ equalize_def (equalizer s w h) xs ys ms
+  pub call_served : v ≡ (Ok tt) → (t : EqualizeState) (e : Equalized) (w' h' ys' : List Float) (ms' : List ℕ) → Ran (run_def (equalizer s w h) (samples_of xs)) (equalizer t w' h') ys' ms'
+      → e ≡ record { state = t; outcome = Ok tt } → answered e w' h' ys' ms' ≡ equalize_def (equalizer s w h) xs ys ms
   unfolding equalize_def
-  call-served d t w' h' ys' ms' r = rw (← p, d) (same r)
+  call_served d t e w' h' ys' ms' r z = rw (z, ← p, d) (same r)
     where
       same : Ran (run_def (equalizer s w h) (samples_of xs)) (equalizer t w' h') ys' ms' → answered (record { state = t; outcome = (Ok tt) }) w' h' ys' ms' ≡ served_by (run_def (equalizer s w h) (samples_of xs))
       same r = λ i. record { outcome = (Ok tt); reply = []; equalizer = r.left i; out = r.out i; marks = r.marks i }

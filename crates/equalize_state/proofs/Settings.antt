@@ -1,4 +1,4 @@
--- The setters: one law for each exit. Assumes nothing.
+-- The frequency: one law for each exit. Assumes nothing.
 use mathlib.Core.Path.{◌≡◌, refl}
 use mathlib.Core.Bool.{Bool, true, false}
 use lib.Ieee.{Float, nan, inf, fin, is_nan, ne}
@@ -12,27 +12,6 @@ use Rattle.definition.specs.Sample.{with_running}
 use Rattle.definition.specs.Rules.{mu_fits}
 use Rattle.definition.specs.Calls.{with_params, with_mus, set_mu_cma_def, set_mu_dd_def, held_freq, set_frequency_def}
 use Rattle.record_rules.proofs.Bits.{is_nan_lem, no_nan}
-
--- ---- the step sizes
-
-module _ (s : EqualizeState) (mu : Float) (b : Bool) (e : b ≡ mu_fits mu) where
-  pub cma-no : b ≡ false → settled (record { state = s; outcome = Err MuCma }) ≡ set_mu_cma_def s mu
-  unfolding set_mu_cma_def
-  cma-no h = rw (← e, h)
-
-  pub cma-yes : b ≡ true → settled (record { state = with_params s (with_mus s.params mu s.params.mu_dd); outcome = (Ok tt) }) ≡ set_mu_cma_def s mu
-  unfolding set_mu_cma_def
-  cma-yes h = rw (← e, h)
-
-  pub dd-no : b ≡ false → settled (record { state = s; outcome = Err MuDd }) ≡ set_mu_dd_def s mu
-  unfolding set_mu_dd_def
-  dd-no h = rw (← e, h)
-
-  pub dd-yes : b ≡ true → settled (record { state = with_params s (with_mus s.params s.params.mu_cma mu); outcome = (Ok tt) }) ≡ set_mu_dd_def s mu
-  unfolding set_mu_dd_def
-  dd-yes h = rw (← e, h)
-
--- ---- the frequency
 
 not_nan : (v : Float) → ne v v ≡ false → is_nan v ≡ false
 unfolding is_nan

@@ -11,6 +11,7 @@ use lib.Ieee.{Float}
 use Rattle.types.specs.declared.LoopGains.{LoopGains}
 use Rattle.types.specs.declared.EqParams.{EqParams}
 use Rattle.types.specs.declared.EqualizeState.{EqualizeState}
+use Rattle.types.specs.declared.Equalized.{Equalized}
 use Rattle.std.specs.Prelude.{Ok, Err}
 use Rattle.definition.specs.Refusals.{Outcome}
 use Rattle.types.specs.declared.Error.{Error}
@@ -36,10 +37,10 @@ fits_some n h = leb→le 3 n (subst T (sym (both (eqb (n % 2) 1) (leb 3 n) (both
 
 module _ (p : EqParams) (w h : List Float) (v : Outcome) (e : v ≡ new_verdict p (length w) (length h)) where
   -- what `start_over` asks
-  pub new-fits : v ≡ (Ok tt) → (f : ℕ) → f ≡ length w / 2 - p.feedback_taps
+  pub new_fits : v ≡ (Ok tt) → (f : ℕ) → f ≡ length w / 2 - p.feedback_taps
       → (length w ≡ 2 * (length w / 2)) × ((length h ≡ 2 * (length w / 2)) × ((1 ≤ f) × (f ≤ length w / 2)))
   unfolding new_verdict new_tests
-  new-fits d f a =
+  new_fits d f a =
       let x = fine (even (length w) && even (length h)) Odd _ (sym e ∙ d) in
       let y = fine _ Feedback _ x.1 in
       let z = fine _ Taps _ y.1 in
@@ -51,31 +52,31 @@ module _ (p : EqParams) (w h : List Float) (v : Outcome) (e : v ≡ new_verdict 
       let B : 3 ≤ length w / 2 - p.feedback_taps = fits_some _ z.0 in
       (omega arith, (omega arith, (omega arith, omega arith)))
 
-  pub new-refused : (x : Error) → v ≡ Err x → made (Err x) w h ≡ new_def p w h
+  pub new_refused : (x : Error) → v ≡ Err x → made (Err x) w h ≡ new_def p w h
   unfolding new_def
-  new-refused x d = rw (← e, d)
+  new_refused x d = rw (← e, d)
 
-  pub new-done : v ≡ (Ok tt) → (f : ℕ) (t : EqualizeState) (w' h' : List Float) → f ≡ length w / 2 - p.feedback_taps → t ≡ fresh_state p
+  pub new_done : v ≡ (Ok tt) → (f : ℕ) (t : EqualizeState) (w' h' : List Float) → f ≡ length w / 2 - p.feedback_taps → t ≡ fresh_state p
       → (w' ≡ start_weights (length w / 2) (f / 2)) × (h' ≡ zeros (2 * (length w / 2))) → made (Ok t) w' h' ≡ new_def p w h
   unfolding new_def start_over fresh_state start_state
-  new-done d f t w' h' a b c = rw (← e, d, b, c.0, c.1, a)
+  new_done d f t w' h' a b c = rw (← e, d, b, c.0, c.1, a)
 
 -- ---- reset
 
 module _ (s : EqualizeState) (w h : List Float) (v : Outcome) (p : v ≡ reset_verdict (equalizer s w h)) where
-  pub reset-refused : (e : Error) → v ≡ Err e → reset_to (record { state = s; outcome = v }) w h ≡ reset_def (equalizer s w h)
+  pub reset_refused : (e : Error) → v ≡ Err e → reset_to (record { state = s; outcome = Err e }) w h ≡ reset_def (equalizer s w h)
   unfolding reset_def
-  reset-refused e d = rw (← p, d)
+  reset_refused e d = rw (← p, d)
 
-  pub reset-done : v ≡ (Ok tt) → (f : ℕ) (t : EqualizeState) (w' h' : List Float) → f ≡ length w / 2 - s.params.feedback_taps → t ≡ start_state s.params s.kp s.ki
-      → (w' ≡ start_weights (length w / 2) (f / 2)) × (h' ≡ zeros (2 * (length w / 2))) → reset_to (record { state = t; outcome = v }) w' h' ≡ reset_def (equalizer s w h)
+  pub reset_done : v ≡ (Ok tt) → (f : ℕ) (t : EqualizeState) (r : Equalized) (w' h' : List Float) → f ≡ length w / 2 - s.params.feedback_taps → t ≡ start_state s.params s.kp s.ki
+      → (w' ≡ start_weights (length w / 2) (f / 2)) × (h' ≡ zeros (2 * (length w / 2))) → r ≡ record { state = t; outcome = Ok tt } → reset_to r w' h' ≡ reset_def (equalizer s w h)
   unfolding reset_def start_over start_state
-  reset-done d f t w' h' a b c = rw (← p, d, b, c.0, c.1, a)
+  reset_done d f t r w' h' a b c z = rw (z, ← p, d, b, c.0, c.1, a)
 
-  pub reset-fits : v ≡ (Ok tt) → (f : ℕ) → f ≡ length w / 2 - s.params.feedback_taps
+  pub reset_fits : v ≡ (Ok tt) → (f : ℕ) → f ≡ length w / 2 - s.params.feedback_taps
       → (length w ≡ 2 * (length w / 2)) × ((length h ≡ 2 * (length w / 2)) × ((1 ≤ f) × (f ≤ length w / 2)))
   unfolding reset_verdict rule_r1
-  reset-fits d f a =
+  reset_fits d f a =
       let x = fine (even (length w) && even (length h)) Odd _ (sym p ∙ d) in
       let y = fine (rule_r1 (equalizer s w h) && rule_r2 s) Record _ x.1 in
       let o = both (even (length w)) (even (length h)) x.0 in

@@ -27,6 +27,7 @@ fn fresh_state(params: EqParams) -> EqualizeState
 }
 
 // A new equalizer: weights and window are set, and the record is returned. Refusals 1 to 7 leave both as they were.
+#[tactic(auto, using(crate::proofs::Starts::new_refused, crate::proofs::Starts::new_fits, crate::proofs::Starts::new_done))]
 pub fn new(
     weights: &mut [f32],
     window: &mut [f32],
@@ -42,6 +43,7 @@ pub fn new(
 }
 
 // Back to the start, with the settings and gains kept. Refusals 1 and 8.
+#[tactic(auto, using(crate::proofs::Starts::reset_refused, crate::proofs::Starts::reset_fits, crate::proofs::Starts::reset_done))]
 pub fn reset(state: EqualizeState, weights: &mut [f32], window: &mut [f32]) -> Equalized
     ensures { reset_to result weights.new window.new ≡ reset_def (equalizer state weights.old window.old) }
 {
@@ -55,6 +57,7 @@ pub fn reset(state: EqualizeState, weights: &mut [f32], window: &mut [f32]) -> E
 }
 
 // Another step size for Cma, 0.00001 to 1; else refusal 5.
+#[tactic(auto, unfolding(definition::specs::Calls::set_mu_cma_def))]
 pub fn set_mu_cma(state: EqualizeState, mu: f32) -> Equalized
     ensures { settled result ≡ set_mu_cma_def state mu }
 {
@@ -67,6 +70,7 @@ pub fn set_mu_cma(state: EqualizeState, mu: f32) -> Equalized
 }
 
 // Another step size for Decision; else refusal 6.
+#[tactic(auto, unfolding(definition::specs::Calls::set_mu_dd_def))]
 pub fn set_mu_dd(state: EqualizeState, mu: f32) -> Equalized
     ensures { settled result ≡ set_mu_dd_def state mu }
 {

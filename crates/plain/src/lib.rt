@@ -127,7 +127,7 @@ pub fn block(
         output[k] = out.re;
         output[k + 1] = out.im;
         let mark = r.mark;
-        marks[i] = types_numbers::mark_number(mark);
+        marks[i] = u8::from(mark);
         let next = r.state;
         s = next;
         i += 1;

@@ -193,7 +193,7 @@ pub fn run(
         output[j] = out.re;
         output[j + 1] = out.im;
         let mark = r.mark;
-        marks[k] = types_numbers::mark_number(mark);
+        marks[k] = u8::from(mark);
         let next = r.state;
         s = next;
         k += 1;

@@ -1,12 +1,6 @@
--- `equalize_state::new` answers as the definition: a refusal leaves all as it was, and the tests that were passed give the lengths that the start asks. Assumes nothing.
-use Rattle.equalize_state.proofs.Starts.{new-refused, new-done, new-fits}
+-- `equalize_state::new` answers as the definition where the tests are passed: the start weights, a window of zeros and the fresh record. Assumes nothing.
+use Rattle.equalize_state.proofs.Starts.{new_done}
 use Rattle.equalize_state.proofs.new.Goals as goal
 
-pub start_over-requires : goal.start_over-requires
-start_over-requires c = new-fits _ c.args.weights.now c.args.window.now _ c.new_verdict-v.ensures c.in-Ok.is _ c.forward-f.ensures
-
-pub returns-in-Err : goal.returns-in-Err
-returns-in-Err c = search new-refused
-
-pub returns-in-Ok : goal.returns-in-Ok
-returns-in-Ok c = search new-done
+pub returns : goal.returns
+returns c = new_done _ _ _ _ c.new_verdict.ensures c.in_ok-new_verdict.was _ _ _ _ c.forward-f.ensures c.fresh_state.ensures c.start_over.ensures

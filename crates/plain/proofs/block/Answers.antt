@@ -6,7 +6,7 @@ use Rattle.plain.proofs.block.Goals as goal
 
 pub loop-i-preserved : goal.loop-i-preserved
 loop-i-preserved c =
-    let at_mark = c.mark_number in
+    let at_mark = c.from in
     let at-sample = c.sample-r in
     let at_test = c.loop-i-test in
     let at-loop = c.loop-i in

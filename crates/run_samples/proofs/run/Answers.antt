@@ -9,7 +9,7 @@ loop-k-init c =
 
 pub loop-k-preserved : goal.loop-k-preserved
 loop-k-preserved c =
-    let at-mark-number = c.mark_number in
+    let at-mark-number = c.from in
     let at-sample = c.sample-r in
     let at_test = c.loop-k-test in
     let at-loop = c.loop-k in
