@@ -3,8 +3,8 @@ use mathlib.Core.Path.{sym, ◌∙◌}
 use Rattle.capi.proofs.Laws.{block_unknown, block_known}
 use Rattle.capi.proofs.eq_equalize.Goals as goal
 
-pub returns-else-Ok : goal.returns-else-Ok
-returns-else-Ok c = ?
+pub returns-in_default : goal.returns-in_default
+returns-in_default c = block_unknown _ _ _ (sym c.try_from.ensures ∙ c.in_default.is) _ _ _ _ _ _ c.all_even-evens.ensures c.unknown.ensures
 
 pub returns : goal.returns
 returns c = block_known _ _ _ (sym c.try_from.ensures ∙ c.in-Ok.is) _ c.from.ensures _ _ _ _ _ _ _ _ _ c.equalize-e.ensures
