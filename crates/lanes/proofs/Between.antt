@@ -1,11 +1,13 @@
 -- Loops that replace elements, one law for each step, up and down. Assumes nothing.
 use Prim.Native.Nat.{ℕ, ◌+◌, ◌-◌, ◌<◌, ◌≤◌}
-use mathlib.Core.Path.{◌≡◌, refl, ◌∙◌}
-use mathlib.Core.List.{List}
+use mathlib.Core.Path.{◌≡◌, refl, ◌∙◌, ap}
+use mathlib.Core.List.{List, ◌++◌}
 use native.Mathlib.Omega.{arith}
 use native.Mathlib.Decide.{ℕ_discrete, dec_lt}
-use lib.ListN.{length, get_or, set, length-set}
-use lib.Seq.{get_or-set_same, get_or-set_other}
+use borrow.Rule.Slice.PartMut.{put_mid}
+use Rattle.std.proofs.lemmas.List.{get_or-append_right, get_or-drop, get_or-take}
+use lib.ListN.{length, get_or, get_or-append, set, take, drop, length-set, length-append, length-drop}
+use lib.Seq.{get_or-set_same, get_or-set_other, length-take-le}
 use lib.Ieee.{Float, nan}
 use Rattle.lanes.specs.Between.{Between}
 
@@ -65,3 +67,21 @@ between_join f from mid to i j a b = record {
   low = λ k h. b.low k (omega arith) ∙ a.low k h;
   high = λ k h. b.high k h ∙ a.high k (omega arith);
 }
+
+-- a part written whole
+pub between_put : (f : ℕ → Float) (j e n : ℕ) (old part : List Float) → length part ≡ n → n ≡ e - j → j ≤ e → e ≤ length old → ((k : ℕ) → k < n → get_or part k nan ≡ f (j + k))
+    → Between f j e old (put_mid j n old part)
+between_put f j e n old part l h b t g =
+    let a : length (take j old) ≡ j = length-take-le j old (omega arith) in
+    let d : length (drop n (drop j old)) ≡ length old - e = simp length-drop (omega arith) in
+    record {
+      long = simp length-append (omega (arith, a, d));
+      done = λ k p q.
+          let z : j + (k - j) ≡ k = omega arith in
+          get_or-append_right (take j old) (part ++ drop n (drop j old)) j k nan a p ∙ get_or-append part (drop n (drop j old)) nan (k - j) (omega arith) ∙ g (k - j) (omega arith) ∙ ap f z;
+      low = λ k p. get_or-append (take j old) (part ++ drop n (drop j old)) nan k (omega (arith, a)) ∙ get_or-take j old k nan p;
+      high = λ k p.
+          let z : j + (n + (k - j - n)) ≡ k = omega arith in
+          get_or-append_right (take j old) (part ++ drop n (drop j old)) j k nan a (omega arith) ∙ get_or-append_right part (drop n (drop j old)) n (k - j) nan l (omega arith)
+          ∙ get_or-drop n (drop j old) (k - j - n) nan ∙ get_or-drop j old (n + (k - j - n)) nan ∙ ap (λ (i : ℕ). get_or old i nan) z;
+    }

@@ -1,5 +1,7 @@
 -- The arrays of a run: weights and window, real and imaginary parts apart, and the squares of the window. Feedback lanes from 72 on, their window from 144 on.
 use Rattle.std.specs.Prelude.{◌≡◌, List, length, Float}
+use Rattle.lanes.specs.declared.Weights.{Weights}
+use Rattle.lanes.specs.declared.Window.{Window}
 
 pub record Arrays : Type 0 where
   -- weights
@@ -12,6 +14,10 @@ pub record Arrays : Type 0 where
 
 abbrev pub arrays : List Float → List Float → List Float → List Float → List Float → Arrays
 arrays wr wi xr xi q = record { wr = wr; wi = wi; xr = xr; xi = xi; q = q }
+
+-- those of the structs
+abbrev pub arrays_of : Weights → Window → Arrays
+arrays_of w h = arrays w.re w.im h.re h.im h.squares
 
 -- the window's arrays have 288 places
 pub record Long (a : Arrays) : Type 0 where

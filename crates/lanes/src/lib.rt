@@ -2,8 +2,24 @@
 
 #![tactic(auto)]
 
+ghost use Rattle.lanes.specs.Fits.{Fits};
+
 // The most samples of a run.
 pub const RUN: usize = 64;
+
+// The numbers of a call: the lanes of the sums and of the steps, forward and feedback, the padding in front of the feedback lanes, the feedback taps
+// and the centre tap.
+#[derive(Clone, Copy)]
+pub struct Shape {
+    pub lanes: usize,
+    pub more: usize,
+    pub quads: usize,
+    pub mquads: usize,
+    pub front: usize,
+    pub m: usize,
+    pub centre: usize,
+    pub ghost fits: { Fits lanes more quads mquads front m centre },
+}
 
 // The weights: 72 lanes of the forward taps, then 72 of the feedback taps.
 #[derive(Clone, Copy)]

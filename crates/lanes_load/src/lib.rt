@@ -11,11 +11,9 @@ pub fn split(re: &mut [f32], im: &mut [f32], at: usize, x: &[f32], from: usize, 
     requires count_in_bounds_2 { 2 * (from + count) ≤ length x.now }
     ensures { Loaded x.now at from count re.old im.old re.new im.new }
 {
-    let mut i = 0usize;
-    while i < count {
+    for i in 0..count {
         re[at + i] = x[2 * (from + i)];
         im[at + i] = x[2 * (from + i) + 1];
-        i += 1;
     }
 }
 
@@ -25,23 +23,18 @@ pub fn joined(x: &mut [f32], re: &[f32], im: &[f32], at: usize, from: usize, cou
     requires count_in_bounds_2 { 2 * (from + count) ≤ length x.old }
     ensures { Joined re.now im.now at from count x.old x.new }
 {
-    let mut i = 0usize;
-    while i < count {
+    for i in 0..count {
         x[2 * (from + i)] = re[at + i];
         x[2 * (from + i) + 1] = im[at + i];
-        i += 1;
     }
 }
 
 // count values from `from` on to the higher place `to`, the last one first.
 pub fn moved(x: &mut [f32; 288], from: usize, to: usize, count: usize)
-    requires x_len { length x.old ≡ 288 }
-    requires from_le_to { (from ≤ to) × (to + count ≤ 288) }
+    requires { (from ≤ to) × (to + count ≤ 288) }
     ensures { Moved from to count x.old x.new }
 {
-    let mut i = count;
-    while 0 < i {
-        i -= 1;
+    for i in (0..count).rev() {
         x[to + i] = x[from + i];
     }
 }
@@ -65,10 +58,8 @@ pub fn limits(n: usize, front: usize, m: usize) -> [f32; 144]
     ensures { Limits result 0 0 n × Limits result 72 front m }
 {
     let mut limit = [0.0f32; 144];
-    let mut i = 0usize;
-    while i < 144 {
+    for i in 0..144 {
         limit[i] = limit_of(i, n, 72 + front, 72 + front + m);
-        i += 1;
     }
     limit
 }

@@ -1,6 +1,6 @@
 -- Sixteen sums side by side. Assumes nothing.
-use Prim.Native.Nat.{ℕ, ◌+◌, ◌-◌, ◌<◌}
-use mathlib.Core.Path.{◌≡◌, refl, ◌∙◌, ap}
+use Prim.Native.Nat.{ℕ, ◌+◌, ◌-◌, ◌<◌, ◌≤◌}
+use mathlib.Core.Path.{◌≡◌, refl, ◌∙◌}
 use mathlib.Core.List.{List}
 use native.Mathlib.Omega.{arith}
 use native.Mathlib.Numerals.{add-one}
@@ -10,6 +10,8 @@ use Rattle.types.specs.Bits.{zero32}
 use Rattle.dot.specs.Added.{Added}
 use Rattle.lanes.specs.Powers.{chain_from, chain_of}
 use Rattle.lanes.specs.Between.{Between}
+use Rattle.lanes.proofs.Between.{between_put}
+use borrow.Rule.Slice.PartMut.{put_mid}
 
 -- sixteen sums of n values each, side by side
 pub record Chained (q : List Float) (j n : ℕ) (l : List Float) : Type 0 where
@@ -29,13 +31,7 @@ chained_more q j n c a = record {
       rw (add-one, a.done k h, c.sums k h, e);
 }
 
-pub chained_put : (q : List Float) (j n : ℕ) {l old new : List Float} → Chained q j n l → Between (λ i. get_or l (i - j) nan) j (j + 16) old new
-    → Between (λ i. chain_of q i n) j (j + 16) old new
-chained_put q j n c b = record {
-  long = b.long;
-  done = λ k g h.
-      let e : j + (k - j) ≡ k = omega arith in
-      b.done k g h ∙ c.sums (k - j) (omega arith) ∙ ap (λ (x : ℕ). chain_of q x n) e;
-  low = b.low;
-  high = b.high;
-}
+pub chained_put : (q : List Float) (j n : ℕ) {l : List Float} (old : List Float) → Chained q j n l → j + 16 ≤ length old → Between (λ i. chain_of q i n) j (j + 16) old (put_mid j (j + 16 - j) old l)
+chained_put q j n {l} old c h =
+    let e : j + 16 - j ≡ 16 = omega arith in
+    rw e (between_put (λ i. chain_of q i n) j (j + 16) 16 old l c.long (omega arith) (omega arith) h (λ k b. c.sums k b))

@@ -25,10 +25,6 @@ module _ (m : EqMode) (total count : ℕ) where
   unfolding left_in
   left-never e f = rw (e, eq-eqb total never_switch f)
 
-  pub left-none : m ≡ Cma → (total ≡ 4294967295 → ⊥) → total ≤ count → 0 ≡ left_in m total count
-  unfolding left_in
-  left-none e f h = rw (e, ne_eqb total never_switch f) (let g : 0 ≡ min 64 (total - count) = omega arith in g)
-
   pub left-least : (r : ℕ) → m ≡ Cma → (total ≡ 4294967295 → ⊥) → r ≡ min 64 (total - count) → r ≡ left_in m total count
   unfolding left_in
   left-least r e f g = g ∙ rw (e, ne_eqb total never_switch f)

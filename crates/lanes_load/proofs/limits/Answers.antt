@@ -2,11 +2,9 @@
 use Rattle.lanes_load.proofs.LaneLimits.{limits-are}
 use mathlib.Core.Path.{◌≡◌}
 use native.Mathlib.Omega.{arith}
-use borrow.Author.Rules.{rules}
 use Rattle.lanes_load.proofs.limits.Goals as goal
 
 pub returns : goal.returns
 returns c =
-    let v = c.loop-i.invariant in
     let e : c.loop-i.i ≡ 144 = omega arith in
-    limits-are _ _ _ _ _ (search rules) (search rules) (rw e at v.1.1)
+    limits-are _ _ _ _ _ c.requires.0 c.requires.1 (rw e at c.loop-i.invariant)

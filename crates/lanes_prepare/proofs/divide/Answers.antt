@@ -7,6 +7,4 @@ use Rattle.lanes_prepare.proofs.divide.Goals as goal
 
 pub loop-j-preserved : goal.loop-j-preserved
 unfolding step_size
-loop-j-preserved c =
-    let v = c.loop-j.invariant in
-    (omega arith, (omega arith, (v.1.1.0, between_more _ _ _ _ refl v.0 (omega (arith, v.1.1.1.long)) v.1.1.1)))
+loop-j-preserved c = between_more _ _ _ _ refl c.loop-j.auto.j (omega (arith, c.loop-j.invariant.long)) c.loop-j.invariant

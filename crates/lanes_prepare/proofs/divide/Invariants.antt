@@ -2,13 +2,8 @@
 use lib.Ieee.{nan}
 use Rattle.definition.specs.Sample.{step_size}
 use Rattle.lanes.specs.Between.{Between}
-use Prim.Native.Nat.{◌-◌, ◌≤◌}
-use mathlib.Core.Path.{◌≡◌}
-use lib.ListN.{length, get_or}
+use lib.ListN.{get_or}
 use Rattle.lanes_prepare.proofs.divide.Given as goal
 
 abbrev pub invariant-loop-j : goal.invariant-loop-j
-invariant-loop-j l = (l.from ≤ l.j) × ((l.j ≤ l.to) × ((length l.initial.steps ≡ 64) × Between (λ i. step_size l.mu (get_or l.power i nan)) l.from l.j l.initial.steps l.steps))
-
-abbrev pub decreases-loop-j : goal.decreases-loop-j
-decreases-loop-j l = l.to - l.j
+invariant-loop-j l = Between (λ i. step_size l.mu (get_or l.power i nan)) l.from l.j l.initial.steps l.steps
