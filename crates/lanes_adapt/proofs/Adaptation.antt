@@ -1,6 +1,6 @@
 -- The three exits of `update_split`. Assumes nothing.
 use Prim.Native.Nat.{ℕ, ◌+◌, ◌-◌, ◌*◌, ◌/◌, ◌%◌, ◌<◌, ◌≤◌}
-use mathlib.Core.Path.{◌≡◌, refl, sym, ◌∙◌, ap, subst}
+use mathlib.Core.Path.{◌≡◌, refl, sym, ◌∙◌, subst}
 use mathlib.Core.Bool.{Bool, true, false, ◌||◌}
 use mathlib.Core.List.{List}
 use native.Mathlib.Omega.{arith}
@@ -213,27 +213,10 @@ module _ (wr wi limit xr xi : List Float) (at lanes bt more centre : ℕ) (gr gi
   }
 
 -- ---- the exit of `settle`
-pub settled : (wr wi limit : List Float) (centre : ℕ) (b1 b2 : Bool) (wr₁ wi₁ wr₂ wr' wi' : List Float) → b1 ≡ broken_in wr wi limit 0 → b2 ≡ broken_in wr wi limit 72
-    → Replaced (clear_in wr limit (b1 || b2) 0) 0 72 wr wr₁ → Replaced (clear_in wi limit (b1 || b2) 0) 0 72 wi wi₁
-    → Replaced (clear_in wr₁ limit (b1 || b2) 72) 72 72 wr₁ wr₂ → Replaced (clear_in wi₁ limit (b1 || b2) 72) 72 72 wi₁ wi'
-    → wr' ≡ start_in (b1 || b2) centre wr₂ → Settled wr wi limit centre wr' wi'
-settled wr wi limit centre b1 b2 wr₁ wi₁ wr₂ wr' wi' e f r1 i1 r2 i2 g =
-    let all : (b1 || b2) ≡ ruined wr wi limit = unfold ruined in rw (e, f) in
-    record {
-      mid = wr₂;
-      re = rw all at (within_first (omega arith) r1 r2);
-      back_re = rw all at (within_cleared wr limit (b1 || b2) r1 r2);
-      started = rw all at g;
-      im = rw all at (within_first (omega arith) i1 i2);
-      back_im = rw all at (within_cleared wi limit (b1 || b2) i1 i2);
-    }
-
--- ---- the lanes stay 144
-started_long : (b : Bool) (c : ℕ) (l : List Float) → length (start_in b c l) ≡ length l
-unfolding start_in
-started_long true c l = simp length-set
-started_long false c l = refl
-
-pub settled_long : (wr wi limit : List Float) (centre : ℕ) (wr' wi' : List Float) → length wr ≡ 144 → length wi ≡ 144
-    → Settled wr wi limit centre wr' wi' → (length wr' ≡ 144) × (length wi' ≡ 144)
-settled_long wr wi limit centre wr' wi' a b s = (ap length s.started ∙ started_long (ruined wr wi limit) centre s.mid ∙ s.re.long ∙ a, s.im.long ∙ b)
+pub settled : (wr wi limit : List Float) (centre : ℕ) (all : Bool) (mid wr' wi' : List Float) → all ≡ ruined wr wi limit
+    → Replaced (clear_in wr limit all 0) 0 144 wr mid → Replaced (clear_in wi limit all 0) 0 144 wi wi'
+    → wr' ≡ start_in all centre mid → Settled wr wi limit centre wr' wi'
+settled wr wi limit centre all mid wr' wi' e r i g =
+    let u = rw e at (within_cleared wr limit all r) in
+    let v = rw e at (within_cleared wi limit all i) in
+    record { mid = mid; re = u.0; back_re = u.1; started = rw e at g; im = v.0; back_im = v.1 }

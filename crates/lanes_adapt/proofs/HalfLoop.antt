@@ -1,45 +1,37 @@
 -- The loop of `update_half`. Assumes nothing.
-use Prim.Native.Nat.{ℕ, ◌+◌, ◌<◌, ◌≤◌}
+use Prim.Native.Nat.{ℕ, ◌+◌, ◌<◌}
 use mathlib.Core.Path.{◌≡◌, ◌∙◌}
 use mathlib.Core.Bool.{Bool, false, ◌||◌}
 use mathlib.Core.List.{List}
 use native.Mathlib.Omega.{arith}
 use lib.ListN.{length, get_or, set}
 use lib.Ieee.{Float, nan}
-use Rattle.lanes_adapt.specs.Steps.{lane_re, lane_im, step_re, step_im, uneven, any_of, Replaced}
+use Rattle.definition.specs.Floats.{◌+f◌, ◌-f◌, ◌*f◌}
+use Rattle.lanes_adapt.specs.Steps.{kept_of, lane_re, lane_im, step_re, step_im, uneven, any_of, Replaced}
 use Rattle.lanes_adapt.proofs.Loops.{replaced_none, replaced_more, any_none, any_more}
 
-pub record HalfLoop (wr₀ wi₀ limit xr xi : List Float) (at o : ℕ) (gr gi : Float) (lanes i : ℕ) (wr wi : List Float) (bad : Bool) : Type 0 where
-  pub here : i ≤ lanes
-  pub most : o + lanes ≤ 144
-  pub long : length wr₀ ≡ 144
-  pub long' : length wi₀ ≡ 144
+pub record HalfLoop (wr₀ wi₀ limit xr xi : List Float) (at o : ℕ) (gr gi : Float) (i : ℕ) (wr wi : List Float) (bad : Bool) : Type 0 where
   pub re : Replaced (step_re wr₀ limit xr xi at o gr gi) o i wr₀ wr
   pub im : Replaced (step_im wi₀ limit xr xi at o gr gi) o i wi₀ wi
   pub any : bad ≡ any_of i (λ k. uneven (step_re wr₀ limit xr xi at o gr gi k) (step_im wi₀ limit xr xi at o gr gi k))
 
-pub half_none : (wr wi limit xr xi : List Float) (at o : ℕ) (gr gi : Float) (lanes : ℕ) → length wr ≡ 144 → length wi ≡ 144 → o + lanes ≤ 144
-    → HalfLoop wr wi limit xr xi at o gr gi lanes 0 wr wi false
-half_none wr wi limit xr xi at o gr gi lanes a b c =
-    record { here = omega arith; most = c; long = a; long' = b; re = replaced_none _ _ _; im = replaced_none _ _ _; any = any_none _ }
+pub half_none : (wr wi limit xr xi : List Float) (at o : ℕ) (gr gi : Float) → HalfLoop wr wi limit xr xi at o gr gi 0 wr wi false
+half_none wr wi limit xr xi at o gr gi = record { re = replaced_none _ _ _; im = replaced_none _ _ _; any = any_none _ }
 
-pub half_more : (wr₀ wi₀ limit xr xi : List Float) (at o : ℕ) (gr gi : Float) (lanes i : ℕ) (wr wi : List Float) (bad b : Bool) (r m : Float)
-    → HalfLoop wr₀ wi₀ limit xr xi at o gr gi lanes i wr wi bad → i < lanes
-    → r ≡ lane_re (get_or wr (o + i) nan) (get_or limit (o + i) nan) (get_or xr (at + i) nan) (get_or xi (at + i) nan) gr gi
-    → m ≡ lane_im (get_or wi (o + i) nan) (get_or limit (o + i) nan) (get_or xr (at + i) nan) (get_or xi (at + i) nan) gr gi
+pub half_more : (wr₀ wi₀ limit xr xi : List Float) (at o : ℕ) (gr gi : Float) (i : ℕ) (wr wi : List Float) (bad b : Bool) (r m : Float)
+    → HalfLoop wr₀ wi₀ limit xr xi at o gr gi i wr wi bad → o + i < length wr → o + i < length wi
+    → r ≡ kept_of (get_or wr (o + i) nan -f (gr *f get_or xr (at + i) nan +f gi *f get_or xi (at + i) nan)) (get_or limit (o + i) nan)
+    → m ≡ kept_of (get_or wi (o + i) nan -f (gi *f get_or xr (at + i) nan -f gr *f get_or xi (at + i) nan)) (get_or limit (o + i) nan)
     → b ≡ uneven r m
-    → HalfLoop wr₀ wi₀ limit xr xi at o gr gi lanes (i + 1) (set wr (o + i) r) (set wi (o + i) m) (bad || b)
-half_more wr₀ wi₀ limit xr xi at o gr gi lanes i wr wi bad b r m s h er em eb =
+    → HalfLoop wr₀ wi₀ limit xr xi at o gr gi (i + 1) (set wr (o + i) r) (set wi (o + i) m) (bad || b)
+unfolding lane_re lane_im
+half_more wr₀ wi₀ limit xr xi at o gr gi i wr wi bad b r m s lr li er em eb =
     let kr = s.re.high (o + i) (omega arith) in
     let km = s.im.high (o + i) (omega arith) in
     let fr : r ≡ step_re wr₀ limit xr xi at o gr gi i = er ∙ rw kr in
     let fm : m ≡ step_im wi₀ limit xr xi at o gr gi i = em ∙ rw km in
     record {
-      here = omega arith;
-      most = s.most;
-      long = s.long;
-      long' = s.long';
-      re = replaced_more _ o i r fr (omega (arith, s.most, s.long, s.re.long)) s.re;
-      im = replaced_more _ o i m fm (omega (arith, s.most, s.long', s.im.long)) s.im;
+      re = replaced_more _ o i r fr lr s.re;
+      im = replaced_more _ o i m fm li s.im;
       any = any_more _ i bad b s.any (eb ∙ rw (fr, fm));
     }

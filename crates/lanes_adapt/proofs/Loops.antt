@@ -1,15 +1,17 @@
 -- Loops over the lanes, one law for each step; one half's lanes after the steps of both. Assumes nothing.
-use Prim.Native.Nat.{ℕ, ◌+◌, ◌<◌, ◌≤◌}
-use mathlib.Core.Path.{◌≡◌, refl, ◌∙◌}
-use mathlib.Core.Bool.{Bool, false, ◌||◌}
+use Prim.Native.Nat.{ℕ, zero, suc, ◌+◌, ◌<◌, ◌≤◌}
+use mathlib.Core.Path.{◌≡◌, refl, sym, ◌∙◌}
+use mathlib.Core.Bool.{Bool, true, false, ◌||◌}
 use mathlib.Core.List.{List}
 use native.Mathlib.Omega.{arith}
 use native.Mathlib.Numerals.{add-one}
+use native.Mathlib.Nat.{zero-add, add-zero, add-suc}
 use native.Mathlib.Decide.{ℕ_discrete}
 use lib.ListN.{length, get_or, set, length-set}
 use lib.Seq.{get_or-set_same, get_or-set_other}
 use lib.Ieee.{Float, nan}
-use Rattle.lanes_adapt.specs.Steps.{Replaced, Within, clear_in, any_of}
+use Rattle.lanes_adapt.specs.Steps.{Replaced, Within, broken_at, broken_in, clear_in, any_of}
+use Rattle.lanes_adapt.specs.Settled.{ruined}
 
 pub replaced_none : (f : ℕ → Float) (o : ℕ) (l : List Float) → Replaced f o 0 l l
 replaced_none f o l = record { long = refl; done = λ k h. absurd (omega arith); low = λ k h. refl; high = λ k h. refl }
@@ -39,14 +41,17 @@ within_first b s t = record {
 pub within_second : {f : ℕ → Float} {o n : ℕ} {old l : List Float} → Replaced f o n old l → Within f o n old l
 within_second s = record { long = s.long; done = s.done; kept = λ k h g. s.high (_ + k) (omega arith) }
 
--- both halves cleared, the second by what the first left of it
-pub within_cleared : (w limit : List Float) {l l' : List Float} (all : Bool) → Replaced (clear_in w limit all 0) 0 72 w l → Replaced (clear_in l limit all 72) 72 72 l l'
-    → Within (clear_in w limit all 72) 72 72 w l'
-within_cleared w limit all s t = record {
-  long = t.long ∙ s.long;
-  done = λ k h. t.done k h ∙ rw (s.high (72 + k) (omega arith));
-  kept = λ k h g. absurd (omega arith);
-}
+-- both halves cleared at once
+pub within_cleared : (w limit : List Float) {l : List Float} (all : Bool) → Replaced (clear_in w limit all 0) 0 144 w l
+    → Within (clear_in w limit all 0) 0 72 w l × Within (clear_in w limit all 72) 72 72 w l
+within_cleared w limit all s = (
+  record { long = s.long; done = λ k h. s.done k (omega arith); kept = λ k h g. absurd (omega arith) },
+  record {
+    long = s.long;
+    done = λ k h. let e : 0 + (72 + k) ≡ 72 + k = omega arith in rw e at (s.done (72 + k) (omega arith));
+    kept = λ k h g. absurd (omega arith);
+  },
+)
 
 pub any_none : (p : ℕ → Bool) → false ≡ any_of 0 p
 unfolding any_of
@@ -55,3 +60,22 @@ any_none p = refl
 pub any_more : (p : ℕ → Bool) (n : ℕ) (bad b : Bool) → bad ≡ any_of n p → b ≡ p n → (bad || b) ≡ any_of (n + 1) p
 unfolding any_of
 any_more p n bad b e f = rw (add-one, e, f)
+
+or_false : (a : Bool) → (a || false) ≡ a
+or_false true = refl
+or_false false = refl
+
+or_assoc : (a b c : Bool) → ((a || b) || c) ≡ (a || (b || c))
+or_assoc true b c = refl
+or_assoc false b c = refl
+
+-- the first n tests, then the m after them
+pub any_split : (p : ℕ → Bool) (n m : ℕ) → any_of (n + m) p ≡ (any_of n p || any_of m (λ i. p (n + i)))
+unfolding any_of
+any_split p n zero = rw add-zero (sym (or_false (any_of n p)))
+any_split p n (suc m) = rw (add-suc, any_split p n m) (or_assoc (any_of n p) (any_of m (λ i. p (n + i))) (p (n + m)))
+
+-- all lanes at once
+pub broken_all : (wr wi limit : List Float) → any_of 144 (λ k. broken_at (get_or wr k nan) (get_or wi k nan) (get_or limit k nan)) ≡ ruined wr wi limit
+unfolding ruined broken_in
+broken_all wr wi limit = any_split (λ k. broken_at (get_or wr k nan) (get_or wi k nan) (get_or limit k nan)) 72 72 ∙ simp zero-add

@@ -2,17 +2,17 @@
 use Rattle.lanes_adapt.proofs.Adaptation.{adapt_hold, adapt-calm, adapt-settled}
 use Rattle.lanes_adapt.proofs.update_split.Goals as goal
 
-pub returns-in_default-clause-adapts : goal.returns-in_default-clause-adapts
-returns-in_default-clause-adapts c = adapt_hold _ _ _ _ _ _ _ _ _ _ _ c.in_default.is
+pub returns-in_default : goal.returns-in_default
+returns-in_default c = adapt_hold _ _ _ _ _ _ _ _ _ _ _ c.in_default.is
 
-pub returns-then-b1-b2-clause-adapts : goal.returns-then-b1-b2-clause-adapts
-returns-then-b1-b2-clause-adapts c =
+pub returns-then-b1-b2 : goal.returns-then-b1-b2
+returns-then-b1-b2 c =
     let s = c.update_half-b1.ensures in
     let t = c.update_half-b2.ensures in
-    adapt-settled _ _ _ _ _ _ _ _ _ _ _ _ _ _ _ _ s.replaced s.replaced_2 t.replaced t.replaced_2 _ _ _ c.in-Step.is c.settle.ensures
+    adapt-settled _ _ _ _ _ _ _ _ _ _ _ _ _ _ _ _ s.re s.im t.re t.im _ _ _ c.in-Step.is c.settle.ensures
 
-pub returns-else-b1-b2-clause-adapts : goal.returns-else-b1-b2-clause-adapts
-returns-else-b1-b2-clause-adapts c =
+pub returns-else-b1-b2 : goal.returns-else-b1-b2
+returns-else-b1-b2 c =
     let s = c.update_half-b1.ensures in
     let t = c.update_half-b2.ensures in
-    adapt-calm _ _ _ _ _ _ _ _ _ _ _ _ _ _ _ _ s.replaced s.replaced_2 t.replaced t.replaced_2 _ _ _ c.in-Step.is s.value t.value c.if-b1-b2.false
+    adapt-calm _ _ _ _ _ _ _ _ _ _ _ _ _ _ _ _ s.re s.im t.re t.im _ _ _ c.in-Step.is s.value t.value c.if-b1-b2.false
