@@ -75,3 +75,17 @@ sums_at p n m k s z b a h (no d) =
 -- a block of m products, from a multiple of eight on
 pub added_lanes : (p : ℕ → Float) (n m : ℕ) {l l' : List Float} → Lanes p n l → n % 8 ≡ 0 → m ≤ 8 → Added p n m l l' → Lanes p (n + m) l'
 added_lanes p n m s z b a = record { long = a.long ∙ s.long; sums = λ k h. sums_at p n m k s z b a h (dec_lt k m) }
+
+-- the next block of eight
+pub lanes_block : (p : ℕ → Float) (b : ℕ) {l l' : List Float} → Lanes p (8 * b) l → Added p (8 * b) 8 l l' → Lanes p (8 * (b + 1)) l'
+lanes_block p b s a =
+    let e : 8 * (b + 1) ≡ 8 * b + 8 = omega arith in
+    rw e (added_lanes p (8 * b) 8 s (omega arith) (omega arith) a)
+
+-- the blocks of eight, then the rest
+pub lanes_rest : (p : ℕ → Float) (b n : ℕ) {l l' : List Float} → b ≡ n / 8 → Lanes p (8 * b) l → Added p (8 * (n / 8)) (n % 8) l l'
+    → tree (λ k. get_or l' k nan) ≡ sum8 p n
+lanes_rest p b n {l} q s a =
+    let e : 8 * (n / 8) + n % 8 ≡ n = omega arith in
+    let t : Lanes p (8 * (n / 8)) l = rw q at s in
+    lanes_tree p (8 * (n / 8) + n % 8) (added_lanes p (8 * (n / 8)) (n % 8) t (omega arith) (omega arith) a) ∙ rw e

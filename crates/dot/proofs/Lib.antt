@@ -1,3 +1,2 @@
--- Lanes: the partial sums. Shorter: the shorter of two slices says how many.
+-- Lanes: the partial sums.
 pub mod Lanes
-pub mod Shorter

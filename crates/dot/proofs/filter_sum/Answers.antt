@@ -4,4 +4,4 @@ use Rattle.dot.proofs.filter_sum.Goals as goal
 
 pub returns : goal.returns
 unfolding filter_sum
-returns c = rw (c.sum_re.ensures, c.sum_im.ensures)
+returns c = rw (c.sum.ensures, c.sum-2.ensures)
