@@ -14,7 +14,7 @@ pub onto_none : (p : ℕ → Float) (l : List Float) → length l ≡ 8 → Onto
 unfolding lane_from
 onto_none p l h = record { long = h; sums = λ k b. refl }
 
-pub onto_more : (p : ℕ → Float) (n : ℕ) {l₀ l l' : List Float} → n % 8 ≡ 0 → Onto p n l₀ l → Added p n 8 l l' → Onto p (n + 8) l₀ l'
+onto_more : (p : ℕ → Float) (n : ℕ) {l₀ l l' : List Float} → n % 8 ≡ 0 → Onto p n l₀ l → Added p n 8 l l' → Onto p (n + 8) l₀ l'
 unfolding lane_from
 onto_more p n {l₀} {l} {l'} z o a = record {
   long = a.long ∙ o.long;
@@ -31,3 +31,9 @@ onto_tree p n q m {l} {l'} a b =
     let at : (k : ℕ) → k < 8 → get_or l' k nan ≡ lane_from (lane_from zero32 p k (n / 8)) q k (m / 8) =
     λ k h. b.sums k h ∙ ap (λ (x : Float). lane_from x q k (m / 8)) (a.sums k h ∙ ap (λ (x : Float). lane_from x p k (n / 8)) (get_or-replicate 8 k zero32 nan h)) in
     rw (at 0 (omega arith), at 1 (omega arith), at 2 (omega arith), at 3 (omega arith), at 4 (omega arith), at 5 (omega arith), at 6 (omega arith), at 7 (omega arith))
+
+-- the next block of eight
+pub onto_block : (p : ℕ → Float) (b : ℕ) {l₀ l l' : List Float} → Onto p (8 * b) l₀ l → Added p (8 * b) 8 l l' → Onto p (8 * (b + 1)) l₀ l'
+onto_block p b o a =
+    let e : 8 * (b + 1) ≡ 8 * b + 8 = omega arith in
+    rw e (onto_more p (8 * b) (omega arith) o a)

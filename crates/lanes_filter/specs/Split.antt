@@ -2,15 +2,19 @@
 use Rattle.std.specs.Prelude.{ℕ, zero, suc, ◌+◌, ◌*◌, ◌/◌, ◌<◌, ◌≡◌, List, length, get_or, Float}
 use Rattle.std.specs.Float.{nan}
 use Rattle.types.specs.Bits.{zero32}
-use Rattle.definition.specs.Floats.{◌+f◌, ◌-f◌, ◌*f◌}
+use Rattle.definition.specs.Floats.{◌+f◌}
 use Rattle.definition.specs.Slices.{tree}
+use Rattle.dot.specs.Parts.{product_re, product_im}
 
--- window value a + i times weight o + i
+-- the part p of window value a + i times weight o + i
+abbrev pub split_at : (Float → Float → Float → Float → Float) → List Float → List Float → List Float → List Float → ℕ → ℕ → ℕ → Float
+split_at p xr xi wr wi a o i = p (get_or xr (a + i) nan) (get_or xi (a + i) nan) (get_or wr (o + i) nan) (get_or wi (o + i) nan)
+
 abbrev pub split_re : List Float → List Float → List Float → List Float → ℕ → ℕ → ℕ → Float
-split_re xr xi wr wi a o i = (get_or xr (a + i) nan *f get_or wr (o + i) nan) -f (get_or xi (a + i) nan *f get_or wi (o + i) nan)
+split_re = split_at product_re
 
 abbrev pub split_im : List Float → List Float → List Float → List Float → ℕ → ℕ → ℕ → Float
-split_im xr xi wr wi a o i = (get_or xr (a + i) nan *f get_or wi (o + i) nan) +f (get_or xi (a + i) nan *f get_or wr (o + i) nan)
+split_im = split_at product_im
 
 -- partial k from a on: a, then p k, p (8 + k), .., b of them
 unfoldable pub lane_from : Float → (ℕ → Float) → ℕ → ℕ → Float

@@ -3,4 +3,4 @@ use Rattle.lanes_sample.proofs.Measurement.{measured}
 use Rattle.lanes_sample.proofs.measure.Goals as goal
 
 pub returns : goal.returns
-returns c = measured _ _ _ _ _ _ _ _ _ _ _ _ _ _ _ c.requires.at_bound.0 c.chain-p1.ensures c.dot_split_re-re.ensures c.chain-p2.ensures c.dot_split_im-im.ensures
+returns c = measured _ _ _ _ _ _ _ _ _ _ _ _ _ _ _ c.requires c.chain-p1.ensures c.dot_split-re.ensures c.chain-p2.ensures c.dot_split-im.ensures

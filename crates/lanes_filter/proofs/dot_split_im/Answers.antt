@@ -1,7 +1,0 @@
--- `dot_split_im` gives the imaginary part of the sum over both halves of the lanes: the tree over the partial sums that `blocks_im` leaves.
-use Rattle.lanes_filter.proofs.Blocks.{onto_tree}
-use mathlib.Core.Path.{◌∙◌}
-use Rattle.lanes_filter.proofs.dot_split_im.Goals as goal
-
-pub returns : goal.returns
-returns c = c.dot_complex_tree.ensures ∙ onto_tree _ _ _ _ c.blocks_im.ensures c.blocks_im-2.ensures
