@@ -6,7 +6,7 @@ use mathlib.Core.List.{List}
 use native.Mathlib.Omega.{arith}
 use native.Mathlib.Decide.{ℕ_discrete}
 use borrow.Author.Tests.{eq-eqb, ne_eqb}
-use lib.ListN.{length, set, length-set}
+use lib.ListN.{set}
 use lib.Dec.{T, eqb, ltb}
 use lib.Seq.{get_or-set_other}
 use lib.Ieee.{Float, nan}
@@ -34,10 +34,10 @@ use Rattle.lanes.specs.Adapts.{Adapts}
 use Rattle.lanes_sample.proofs.Sample.{absorbed, measure_is, sample_by, sample_by_lem, sample_holds}
 use Rattle.steps.specs.declared.Track.{Track}
 use Rattle.steps.specs.declared.Stepped.{Stepped}
-use Rattle.run_samples.specs.declared.Shape.{Shape}
+use Rattle.lanes.specs.declared.Shape.{Shape}
 use Rattle.steps.specs.declared.Stage.{Stage}
 use Rattle.steps.specs.Step.{track_of, update_if, step_at, step_with, step_of, with_track, heard_of, unheard_of, stage, did}
-use Rattle.run_samples.specs.Sample.{Lanes, size_of, stage_of, Before, StageIs, Takes, Samples}
+use Rattle.run_samples.specs.Sample.{size_of, stage_of, Before, StageIs, Takes, Samples}
 
 -- ---- the step size
 module _ (s : EqualizeState) (P : Float) (m : ℕ) (ahead : Float) where
@@ -62,9 +62,6 @@ heard_exit r k t e d = d ∙ ap heard_of e
 pub adapts_exit : (r k : Stepped) (wr wi limit xr xi : List Float) (at quads bt mquads centre : ℕ) (wr' wi' : List Float) → r ≡ k
     → Adapts r.update wr wi limit xr xi at quads bt mquads centre wr' wi' → Adapts k.update wr wi limit xr xi at quads bt mquads centre wr' wi'
 adapts_exit r k wr wi limit xr xi at quads bt mquads centre wr' wi' e d = subst (λ (z : Stepped). Adapts z.update wr wi limit xr xi at quads bt mquads centre wr' wi') e d
-
-pub lanes_exit : (wr wi : List Float) → (length wr ≡ 144) × (length wi ≡ 144) → Lanes wr wi
-lanes_exit wr wi e = record { wr_long = e.0; wi_long = e.1 }
 
 -- ---- `take`
 module _ (s : EqualizeState) (w h : List Float) (n m : ℕ) (x y : C32) (e : y ≡ step2 (n + m) w (step1 n x h)) where
@@ -97,23 +94,22 @@ module _ (s : EqualizeState) (g : Shape) (at : ℕ) (x : C32) (F ahead : Float) 
   size-go n w h f (no d) = rw (ne_eqb g.m 0 d) (ap (step_size (mu_of s.mode s.params)) (sums n w h f).1)
 
   module _ (r : Stage) (b : Bool) (i : b ≡ finite_c x) where
-    unheard : Lanes a.wr a.wi → ((n : ℕ) (w h : List Float) → Before s g n at x F ahead limit a w h → StageIs s n g.m x w h Hold r)
+    unheard : ((n : ℕ) (w h : List Float) → Before s g n at x F ahead limit a w h → StageIs s n g.m x w h Hold r)
         → Takes s g at x F ahead limit a a.wr a.wi r
     unfolding adapted
-    unheard l t = record { lanes = l; update = Hold; adapts = record { holds = λ n m w h k. k.weights }; stage_is = t }
+    unheard t = record { update = Hold; adapts = record { holds = λ n m w h k. k.weights }; stage_is = t }
 
-    pub take-blank : b ≡ false → Lanes a.wr a.wi → r ≡ unheard_of s Blank → Takes s g at x F ahead limit a a.wr a.wi r
-    take-blank d l q = unheard l (λ n w h f. rw q (took-blank s w h n g.m x y (sums n w h f).0 (sym i ∙ d)))
+    pub take-blank : b ≡ false → r ≡ unheard_of s Blank → Takes s g at x F ahead limit a a.wr a.wi r
+    take-blank d q = unheard (λ n w h f. rw q (took-blank s w h n g.m x y (sums n w h f).0 (sym i ∙ d)))
 
     module _ (d : b ≡ true) (c : Bool) (j : c ≡ finite_c y) where
-      pub take-spilled : c ≡ false → Lanes a.wr a.wi → r ≡ unheard_of s Spilled → Takes s g at x F ahead limit a a.wr a.wi r
-      take-spilled k l q = unheard l (λ n w h f. rw q (took-spilled s w h n g.m x y (sums n w h f).0 (sym i ∙ d) (sym j ∙ k)))
+      pub take-spilled : c ≡ false → r ≡ unheard_of s Spilled → Takes s g at x F ahead limit a a.wr a.wi r
+      take-spilled k q = unheard (λ n w h f. rw q (took-spilled s w h n g.m x y (sums n w h f).0 (sym i ∙ d) (sym j ∙ k)))
 
-      pub take-heard : c ≡ true → (size : Float) (wr' wi' : List Float) → Lanes wr' wi' → size ≡ size_of s g.m ahead all → r ≡ heard_of (step_of s y F size)
+      pub take-heard : c ≡ true → (size : Float) (wr' wi' : List Float) → size ≡ size_of s g.m ahead all → r ≡ heard_of (step_of s y F size)
           → Adapts (step_of s y F size).update a.wr a.wi limit a.xr a.xi at g.quads (at + 153 - g.front) g.mquads g.centre wr' wi'
           → Takes s g at x F ahead limit a wr' wi' r
-      take-heard o size wr' wi' l z q k = record {
-        lanes = l;
+      take-heard o size wr' wi' z q k = record {
         update = (step_of s y F size).update;
         adapts = k;
         stage_is = λ n w h f. rw q (took-heard s w h n g.m x y (sums n w h f).0 F size (sym i ∙ d) (sym j ∙ o) f.power_is (z ∙ size-go n w h f (ℕ_discrete g.m 0)));
@@ -178,12 +174,10 @@ sampled s g at x F ahead limit wr wi xr xi sq wr' wi' xr' xi' sq' r k nx low r4 
     let ab = absorbed t.update r.fed at g.quads g.mquads g.front g.centre limit wr wi xr xi sq wr' wi' xr' xi' sq' low t.adapts er ei eq in
     let e : nx ≡ advance (with_track s r.track) = en ∙ ap advance ek in
     record {
-      lanes = t.lanes;
       front = record {
         re = λ i b. rw er (get_or-set_other xr (at + 152) i r.fed.re nan (λ (z : i ≡ at + 152). omega arith));
         im = λ i b. rw ei (get_or-set_other xi (at + 152) i r.fed.im nan (λ (z : i ≡ at + 152). omega arith));
       };
-      long = λ l. record { xr = rw er (simp length-set l.xr); xi = rw ei (simp length-set l.xi); q = rw eq (simp length-set l.q) };
       counts = rw en (advanced_r4 k (track_r4 s k r.track r4 ek));
       track = r.track;
       ticks = e ∙ ticks_is s r.track;

@@ -15,15 +15,15 @@ use Rattle.definition.specs.Packed.{equalizer}
 use Rattle.definition.specs.Sample.{Equalizer, mu_of, step_size, step1, advance}
 use Rattle.definition.specs.Rules.{accepted_def, rule_r4}
 use Rattle.definition_laws.proofs.Kept.{advance_keeps}
-use Rattle.lanes.specs.Arrays.{Arrays, Long}
+use Rattle.lanes.specs.Arrays.{Arrays}
 use Rattle.lanes.specs.Holds.{Lies, Holds, Put}
 use Rattle.lanes_prepare.specs.Clock.{cma_left, StepSizes, Clock}
 use Rattle.lanes_sample.proofs.Representation.{window_is}
 use Rattle.lanes_prepare.proofs.Clock.{clock_none, clock_next}
 use Rattle.steps.specs.declared.Track.{Track}
-use Rattle.run_samples.specs.declared.Shape.{Shape}
+use Rattle.lanes.specs.declared.Shape.{Shape}
 use Rattle.steps.specs.declared.Sampled.{Sampled}
-use Rattle.run_samples.specs.Sample.{Lanes, Front, Before, Samples}
+use Rattle.run_samples.specs.Sample.{Front, Before, Samples}
 use Rattle.steps.specs.Step.{with_track, did}
 use Rattle.run_samples.specs.Run.{RunReady, Runs}
 use Rattle.record_mode.proofs.Counts.{count-below}
@@ -38,9 +38,7 @@ pub record Reached (n m : ℕ) (s₀ : EqualizeState) (q₀ : Equalizer) (xs : L
   pub clock : k ≤ 63 → Clock s₀ k s
 
 pub record RunLoop (s₀ : EqualizeState) (g : Shape) (limit : List Float) (a₀ : Arrays) (ps ss xs ys₀ : List Float) (ms₀ : List ℕ) (a : Arrays) (ys : List Float) (ms : List ℕ) (s : EqualizeState) (k : ℕ) : Type 0 where
-  pub lanes : Lanes a.wr a.wi
   pub front : Front a₀ a
-  pub long : Long a₀ → Long a
   pub counts : rule_r4 s ≡ true
   pub here : k ≤ length ms
   pub most : length ms ≤ 64
@@ -50,12 +48,10 @@ pub record RunLoop (s₀ : EqualizeState) (g : Shape) (limit : List Float) (a₀
   pub long_ms : length ms ≡ length ms₀
   pub reached : (n : ℕ) (w h : List Float) → accepted_def (equalizer s₀ w h) ≡ true → RunReady s₀ g n limit a₀ ps ss xs w h → Reached n g.m s₀ (equalizer s₀ w h) xs a ys ms s k
 
-pub loop_none : (s : EqualizeState) (g : Shape) (limit : List Float) (a : Arrays) (ps ss xs ys : List Float) (ms : List ℕ) → Lanes a.wr a.wi → rule_r4 s ≡ true
+pub loop_none : (s : EqualizeState) (g : Shape) (limit : List Float) (a : Arrays) (ps ss xs ys : List Float) (ms : List ℕ) → rule_r4 s ≡ true
     → length ms ≤ 64 → length xs ≡ 2 * length ms → length ys ≡ 2 * length ms → RunLoop s g limit a ps ss xs ys ms a ys ms s 0
-loop_none s g limit a ps ss xs ys ms l c t i o = record {
-  lanes = l;
+loop_none s g limit a ps ss xs ys ms c t i o = record {
   front = record { re = λ i b. refl; im = λ i b. refl };
-  long = λ y. y;
   counts = c;
   here = omega arith;
   most = t;
@@ -114,9 +110,7 @@ module _ (s₀ : EqualizeState) (g : Shape) (limit : List Float) (a₀ : Arrays)
       → Samples s g (63 - k) (complex (re_at xs k) (im_at xs k)) (get_or ps (63 - k) nan) (get_or ss (63 - k) nan) limit a a' r
       → RunLoop s₀ g limit a₀ ps ss xs ys₀ ms₀ a' (set (set ys (2 * k) r.out.re) (2 * k + 1) r.out.im) (set ms k b) r.state (k + 1)
   loop-more r b a' l v p = record {
-    lanes = p.lanes;
     front = record { re = λ i b. p.front.re i b ∙ o.front.re i b; im = λ i b. p.front.im i b ∙ o.front.im i b };
-    long = λ y. p.long (o.long y);
     counts = p.counts;
     here = simp length-set (omega arith);
     most = simp length-set o.most;
@@ -140,8 +134,6 @@ module _ (s₀ : EqualizeState) (g : Shape) (limit : List Float) (a₀ : Arrays)
 
   pub loop-all : length ms ≤ k → Runs s₀ g limit a₀ ps ss xs a ys ms s
   loop-all l = record {
-    lanes = o.lanes;
-    long = o.long;
     counts = o.counts;
     input = o.input;
     after = λ n w h ok b.

@@ -8,11 +8,11 @@ use Rattle.definition.specs.Packed.{equalizer, Ran}
 use Rattle.definition.specs.Sample.{Equalizer}
 use Rattle.definition.specs.Rules.{accepted_def, rule_r4}
 use Rattle.definition.specs.Run.{run_def}
-use Rattle.lanes.specs.Arrays.{Arrays, Long}
+use Rattle.lanes.specs.Arrays.{Arrays}
 use Rattle.lanes.specs.Holds.{Lies, Holds, Put}
 use Rattle.lanes_prepare.specs.Clock.{StepSizes}
-use Rattle.run_samples.specs.declared.Shape.{Shape}
-use Rattle.run_samples.specs.Sample.{Lanes, Setting}
+use Rattle.lanes.specs.declared.Shape.{Shape}
+use Rattle.run_samples.specs.Sample.{Setting}
 
 -- the powers ps of the windows that lie in the arrays, from the place `from` on
 pub record Powered (n from : ℕ) (xr xi ps : List Float) : Type 0 where
@@ -34,8 +34,6 @@ pub record After (n m p : ℕ) (q : Equalizer) (xs ys : List Float) (ms : List �
   pub holds : Holds n m p a (equalizer s weights window)
 
 pub record Runs (s : EqualizeState) (g : Shape) (limit : List Float) (a : Arrays) (ps ss xs : List Float) (a' : Arrays) (ys : List Float) (ms : List ℕ) (r : EqualizeState) : Type 0 where
-  pub lanes : Lanes a'.wr a'.wi
-  pub long : Long a → Long a'
   pub counts : rule_r4 r ≡ true
   pub input : length xs ≡ 2 * length ms
   pub after : (n : ℕ) (w h : List Float) → accepted_def (equalizer s w h) ≡ true → RunReady s g n limit a ps ss xs w h

@@ -1,5 +1,5 @@
 -- One sample on the arrays, in the definition's words. n forward taps; `Shape` has the feedback taps and the lanes.
-use Rattle.std.specs.Prelude.{ℕ, ◌+◌, ◌-◌, ◌/◌, ◌%◌, ◌<◌, ◌≤◌, ◌≡◌, true, cond, List, length, get_or, eqb, Float}
+use Rattle.std.specs.Prelude.{ℕ, ◌+◌, ◌-◌, ◌/◌, ◌%◌, ◌<◌, ◌≡◌, true, cond, List, get_or, eqb, Float}
 use Rattle.std.specs.Float.{nan}
 use Rattle.types.specs.declared.C32.{C32}
 use Rattle.types.specs.declared.EqualizeState.{EqualizeState}
@@ -9,31 +9,14 @@ use Rattle.definition.specs.Packed.{equalizer}
 use Rattle.definition.specs.Sample.{Equalizer, mu_of, step_size, adapted, step1, step2, step3, advance, sample_def}
 use Rattle.definition.specs.Sample as sample
 use Rattle.definition.specs.Rules.{accepted_def, rule_r4}
-use Rattle.lanes.specs.Arrays.{Arrays, Long}
+use Rattle.lanes.specs.Arrays.{Arrays}
 use Rattle.lanes.specs.Holds.{Holds, Put, Limits, LaneCounts}
 use Rattle.lanes.specs.Adapts.{Adapts}
 use Rattle.steps.specs.declared.Track.{Track}
 use Rattle.steps.specs.declared.Stage.{Stage}
 use Rattle.steps.specs.declared.Sampled.{Sampled}
 use Rattle.steps.specs.Step.{with_track, stage, did}
-use Rattle.run_samples.specs.declared.Shape.{Shape}
-
--- what the loops over the lanes ask of a shape
-pub record Fits (g : Shape) : Type 0 where
-  pub lanes : g.lanes ≤ 72
-  pub whole_run : g.lanes % 8 ≡ 0
-  pub more : g.more ≤ 72
-  pub more_blocks : g.more % 8 ≡ 0
-  pub quads : g.quads ≤ 72
-  pub mquads : g.mquads ≤ 72
-  pub front : g.front < 8
-  pub back : g.m ≤ 63
-  pub centre : g.centre < 72
-
--- and of the weights' arrays
-pub record Lanes (wr wi : List Float) : Type 0 where
-  pub wr_long : length wr ≡ 144
-  pub wi_long : length wi ≡ 144
+use Rattle.lanes.specs.declared.Shape.{Shape}
 
 -- the forward window, the first 144 places, is the same in both
 pub record Front (a a' : Arrays) : Type 0 where
@@ -42,7 +25,6 @@ pub record Front (a a' : Arrays) : Type 0 where
 
 -- a shape of n forward and m feedback taps
 pub record Formed (n m : ℕ) (g : Shape) : Type 0 where
-  pub fits : Fits g
   pub back_is : g.m ≡ m
   pub front_is : g.front ≡ n % 8
   pub middle : g.centre ≡ n / 2
@@ -76,7 +58,6 @@ abbrev pub StageIs : EqualizeState → ℕ → ℕ → C32 → List Float → Li
 StageIs s n m x w h u r = stage s r (adapted u (n + m) n w (step1 n x h)) ≡ stage_of s w h n m x
 
 pub record Takes (s : EqualizeState) (g : Shape) (at : ℕ) (x : C32) (forward ahead : Float) (limit : List Float) (a : Arrays) (wr' wi' : List Float) (r : Stage) : Type 0 where
-  pub lanes : Lanes wr' wi'
   pub update : Update
   pub adapts : Adapts update a.wr a.wi limit a.xr a.xi at g.quads (at + 153 - g.front) g.mquads g.centre wr' wi'
   pub stage_is : (n : ℕ) (w h : List Float) → Before s g n at x forward ahead limit a w h → StageIs s n g.m x w h update r
@@ -89,9 +70,7 @@ pub record SampleDone (n m at : ℕ) (x : C32) (q : Equalizer) (a : Arrays) (r :
   pub holds : Holds n m at a (equalizer r.state weights window)
 
 pub record Samples (s : EqualizeState) (g : Shape) (at : ℕ) (x : C32) (forward ahead : Float) (limit : List Float) (a a' : Arrays) (r : Sampled) : Type 0 where
-  pub lanes : Lanes a'.wr a'.wi
   pub front : Front a a'
-  pub long : Long a → Long a'
   pub counts : rule_r4 r.state ≡ true
   pub track : Track
   pub ticks : r.state ≡ with_track (advance s) track

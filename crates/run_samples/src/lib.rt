@@ -1,39 +1,19 @@
-// The samples of a run on the arrays: w the weights, x the window, q its squares; r real, i imaginary. Feedback lanes from 72 on, their window from 144 on.
+// The samples of a run on the arrays: w the weights, h the window. Feedback lanes from 72 on, their window from 144 on.
 #![tactic(auto)]
 
 ghost use Rattle.std.specs.Prelude.{◌≡◌, true, ◌+◌, ◌-◌, ◌*◌, ◌<◌, ◌≤◌, length};
 ghost use Rattle.tables.specs.Table.{cos_bits};
 ghost use Rattle.definition.specs.Rules.{rule_r4};
-ghost use Rattle.lanes.specs.Arrays.{arrays};
+ghost use Rattle.lanes.specs.Arrays.{arrays_of};
 ghost use Rattle.lanes.specs.Adapts.{Adapts};
 ghost use Rattle.steps.specs.Step.{step_of, heard_of};
-ghost use Rattle.run_samples.specs.Sample.{Fits, Lanes, size_of, Takes, Samples};
+ghost use Rattle.run_samples.specs.Sample.{size_of, Takes, Samples};
 ghost use Rattle.run_samples.specs.Run.{Runs};
 
+use lanes::{Shape, Weights, Window};
+use lanes_prepare::Ahead;
 use steps::{Sampled, Stage};
 use types::{C32, EqualizeState, Mark};
-
-// The numbers of a call: the lanes of the sums and of the steps, forward and feedback, the padding in front of the feedback lanes, the feedback taps
-// and the centre tap.
-#[derive(Clone, Copy)]
-pub struct Shape {
-    pub lanes: usize,
-    pub more: usize,
-    pub quads: usize,
-    pub mquads: usize,
-    pub front: usize,
-    pub m: usize,
-    pub centre: usize,
-}
-
-// The arrays of a call, all zero: lanes of weights, places of a window, and one number for each sample of a run.
-impl Shape {
-    pub const WEIGHTS: [f32; 144] = [0.0; 144];
-
-    pub const HISTORY: [f32; 288] = [0.0; 288];
-
-    pub const STEPS: [f32; 64] = [0.0; 64];
-}
 
 // The step size of a sample: made ahead without feedback.
 fn step_size(s: EqualizeState, m: usize, ahead: f32, power: f32) -> f32
@@ -54,27 +34,20 @@ fn hear(
     y: C32,
     forward: f32,
     size: f32,
-    wr: &mut [f32; 144],
-    wi: &mut [f32; 144],
+    w: &mut Weights,
     limit: &[f32; 144],
-    xr: &[f32; 288],
-    xi: &[f32; 288],
+    h: &Window,
 ) -> Stage
     requires t_value { t.now ≡ cos_bits }
-    requires at_bound { (at ≤ 63) × Fits g }
-    requires lanes { Lanes wr.old wi.old }
+    requires at_bound { at ≤ 63 }
     ensures value { result ≡ heard_of (step_of s y forward size) }
-    ensures adapts { Adapts (step_of s y forward size).update wr.old wi.old limit.now xr.now xi.now at g.quads
+    ensures adapts { Adapts (step_of s y forward size).update w.old.re w.old.im limit.now h.now.re h.now.im at g.quads
         (at + 153 - g.front) g.mquads g.centre
-        wr.new wi.new }
-    ensures lanes_2 { Lanes wr.new wi.new }
+        w.new.re w.new.im }
 {
-    let bt = at + 153 - g.front;
     let r = steps::follow(s, t, y, forward, size);
     let u = r.update;
-    lanes_adapt::update_split(
-        u, wr, wi, limit, xr, xi, at, g.quads, bt, g.mquads, g.centre,
-    );
+    lanes_adapt::update_split(u, w, limit, h, g, at);
     steps::heard(r)
 }
 
@@ -87,22 +60,16 @@ fn take(
     x: C32,
     forward: f32,
     ahead: f32,
-    wr: &mut [f32; 144],
-    wi: &mut [f32; 144],
+    w: &mut Weights,
     limit: &[f32; 144],
-    xr: &[f32; 288],
-    xi: &[f32; 288],
-    q: &[f32; 288],
+    h: &Window,
 ) -> Stage
     requires t_value { t.now ≡ cos_bits }
-    requires at_bound { (at ≤ 63) × Fits g }
-    requires lanes { Lanes wr.old wi.old }
-    ensures { Takes s g at x forward ahead limit.now
-        (arrays wr.old wi.old xr.now xi.now q.now)
-        wr.new wi.new result }
+    requires at_bound { at ≤ 63 }
+    ensures { Takes s g at x forward ahead limit.now (arrays_of w.old h.now) w.new.re w.new.im result }
 {
     let f = lanes_sample::measure(
-        g.m, g.lanes, g.more, g.front, at, wr, wi, xr, xi, q, forward,
+        g.m, g.lanes, g.more, g.front, at, &w.re, &w.im, &h.re, &h.im, &h.squares, forward,
     );
     let y = f.y;
     if !numeric::finite_c(x) {
@@ -112,7 +79,7 @@ fn take(
         return steps::unheard(s, Mark::Spilled);
     }
     let size = step_size(s, g.m, ahead, f.power);
-    hear(s, t, g, at, y, forward, size, wr, wi, limit, xr, xi)
+    hear(s, t, g, at, y, forward, size, w, limit, h)
 }
 
 // The sample x, steps 2 to 8.
@@ -124,27 +91,21 @@ fn sample(
     x: C32,
     forward: f32,
     ahead: f32,
-    wr: &mut [f32; 144],
-    wi: &mut [f32; 144],
+    w: &mut Weights,
     limit: &[f32; 144],
-    xr: &mut [f32; 288],
-    xi: &mut [f32; 288],
-    q: &mut [f32; 288],
+    h: &mut Window,
 ) -> Sampled
     requires t_value { t.now ≡ cos_bits }
-    requires at_bound { (at ≤ 63) × Fits g }
-    requires lanes { Lanes wr.old wi.old }
+    requires at_bound { at ≤ 63 }
     requires s_value { rule_r4 s ≡ true }
-    ensures { Samples s g at x forward ahead limit.now
-        (arrays wr.old wi.old xr.old xi.old q.old)
-        (arrays wr.new wi.new xr.new xi.new q.new) result }
+    ensures { Samples s g at x forward ahead limit.now (arrays_of w.old h.old) (arrays_of w.new h.new) result }
 {
-    let r = take(s, t, g, at, x, forward, ahead, wr, wi, limit, xr, xi, q);
+    let r = take(s, t, g, at, x, forward, ahead, w, limit, h);
     let fed = r.fed;
     let track = r.track;
     let out = r.out;
     let mark = r.mark;
-    lanes_sample::feed(xr, xi, q, at + 152, fed);
+    lanes_sample::feed(&mut h.re, &mut h.im, &mut h.squares, at + 152, fed);
     let state = record_mode::advance(steps::with_track(s, track));
     Sampled { state, out, mark }
 }
@@ -154,32 +115,22 @@ pub fn run(
     state: EqualizeState,
     t: &[u32; 4097],
     g: Shape,
-    wr: &mut [f32; 144],
-    wi: &mut [f32; 144],
+    w: &mut Weights,
     limit: &[f32; 144],
-    xr: &mut [f32; 288],
-    xi: &mut [f32; 288],
-    q: &mut [f32; 288],
-    power: &[f32; 64],
-    steps: &[f32; 64],
+    h: &mut Window,
+    ahead: &Ahead,
     input: &[f32],
     output: &mut [f32],
     marks: &mut [u8],
 ) -> EqualizeState
     requires t_value { t.now ≡ cos_bits }
     requires marks_len_bound { (length marks.old ≤ 64) × ((length input.now ≡ 2 * length marks.old) × (length output.old ≡ 2 * length marks.old)) }
-    requires fits { Fits g }
-    requires lanes { Lanes wr.old wi.old }
     requires state_value { rule_r4 state ≡ true }
-    ensures { Runs state g limit.now
-        (arrays wr.old wi.old xr.old xi.old q.old)
-        power.now steps.now input.now
-        (arrays wr.new wi.new xr.new xi.new q.new)
-        output.new marks.new result }
+    ensures { Runs state g limit.now (arrays_of w.old h.old) ahead.now.power ahead.now.steps input.now
+        (arrays_of w.new h.new) output.new marks.new result }
 {
     let mut s = state;
-    let mut k = 0usize;
-    while k < marks.len() {
+    for k in 0..marks.len() {
         let at = 63 - k;
         let j = 2 * k;
         let x = C32 {
@@ -187,16 +138,22 @@ pub fn run(
             im: input[j + 1],
         };
         let r = sample(
-            s, t, g, at, x, power[at], steps[at], wr, wi, limit, xr, xi, q,
+            s,
+            t,
+            g,
+            at,
+            x,
+            ahead.power[at],
+            ahead.steps[at],
+            w,
+            limit,
+            h,
         );
         let out = r.out;
         output[j] = out.re;
         output[j + 1] = out.im;
-        let mark = r.mark;
-        marks[k] = u8::from(mark);
-        let next = r.state;
-        s = next;
-        k += 1;
+        marks[k] = u8::from(r.mark);
+        s = r.state;
     }
     s
 }

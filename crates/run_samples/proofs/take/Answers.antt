@@ -7,8 +7,7 @@ returns-then-not-finite_c c =
     let at-if1 = c.if-not-finite_c in
     let at-finite-c = c.finite_c in
     let at-measure = c.measure-f in
-    let asked = c.requires in
-    take-blank _ _ _ _ _ _ _ _ _ _ at-measure.ensures _ _ at-finite-c.ensures at-if1.true asked.lanes c.unheard.ensures
+    take-blank _ _ _ _ _ _ _ _ _ _ at-measure.ensures _ _ at-finite-c.ensures at-if1.true c.unheard.ensures
 
 pub returns-then-not-finite_c-2 : goal.returns-then-not-finite_c-2
 returns-then-not-finite_c-2 c =
@@ -17,8 +16,7 @@ returns-then-not-finite_c-2 c =
     let at-if1 = c.if-not-finite_c in
     let at-finite-c = c.finite_c in
     let at-measure = c.measure-f in
-    let asked = c.requires in
-    take-spilled _ _ _ _ _ _ _ _ _ _ at-measure.ensures _ _ at-finite-c.ensures at-if1.false _ at-finite-c2.ensures at-if2.true asked.lanes c.unheard-then-not-finite_c-2.ensures
+    take-spilled _ _ _ _ _ _ _ _ _ _ at-measure.ensures _ _ at-finite-c.ensures at-if1.false _ at-finite-c2.ensures at-if2.true c.unheard-then-not-finite_c-2.ensures
 
 pub returns : goal.returns
 returns c =
@@ -28,4 +26,4 @@ returns c =
     let at-if1 = c.if-not-finite_c in
     let at-finite-c = c.finite_c in
     let at-measure = c.measure-f in
-    take-heard _ _ _ _ _ _ _ _ _ _ at-measure.ensures _ _ at-finite-c.ensures at-if1.false _ at-finite-c2.ensures at-if2.false _ _ _ c.hear.ensures.lanes_2 at-step-size.ensures c.hear.ensures.value c.hear.ensures.adapts
+    take-heard _ _ _ _ _ _ _ _ _ _ at-measure.ensures _ _ at-finite-c.ensures at-if1.false _ at-finite-c2.ensures at-if2.false _ _ _ at-step-size.ensures c.hear.ensures.value c.hear.ensures.adapts
