@@ -1,6 +1,6 @@
 -- One run: its start, its samples, its end. Assumes nothing.
 use Prim.Native.Nat.{ℕ, ◌+◌, ◌*◌, ◌-◌, ◌/◌, ◌≤◌}
-use mathlib.Core.Path.{◌≡◌, refl, ◌∙◌}
+use mathlib.Core.Path.{◌≡◌, refl}
 use mathlib.Core.Bool.{true}
 use mathlib.Core.List.{List}
 use native.Mathlib.Omega.{arith}
@@ -10,7 +10,7 @@ use lib.Ieee.{Float}
 use Rattle.types.specs.declared.EqualizeState.{EqualizeState}
 use Rattle.definition.specs.Packed.{equalizer}
 use Rattle.definition.specs.Rules.{accepted_def}
-use Rattle.lanes.specs.Arrays.{Arrays, arrays, Long}
+use Rattle.lanes.specs.Arrays.{Arrays, arrays}
 use Rattle.lanes.specs.Holds.{Holds}
 use Rattle.lanes.specs.Between.{Between}
 use Rattle.lanes_prepare.specs.Entered.{Entered}
@@ -18,8 +18,8 @@ use Rattle.lanes.specs.Powers.{square_at, chain_of}
 use Rattle.lanes_prepare.specs.Clock.{StepSizes}
 use Rattle.lanes_prepare.proofs.Start.{entered-put, entered-holds, ahead_is}
 use Rattle.lanes_load.proofs.End.{end_holds}
-use Rattle.run_samples.specs.declared.Shape.{Shape}
-use Rattle.run_samples.specs.Sample.{Fits, Setting}
+use Rattle.lanes.specs.declared.Shape.{Shape}
+use Rattle.run_samples.specs.Sample.{Setting}
 use Rattle.run_samples.specs.Run.{RunReady, After, Runs}
 use Rattle.run_one.specs.WholeRun.{Prepared, Finished, WholeRun}
 
@@ -57,18 +57,7 @@ module _ (xs ys : List Float) (ms : List ℕ) (i e : ℕ) (a : i ≤ e) (b : e �
       (omega (arith, part-ms, a, b), (omega (arith, part-ms, part_xs, a, b), omega (arith, part-ms, y, a, b)))
 
 module _ (s : EqualizeState) (g : Shape) (n : ℕ) (limit wr wi xr xi sq xr1 xi1 sq1 ps ss xs : List Float) (a' : Arrays) (ypart : List Float) (mpart : List ℕ) (r : EqualizeState)
-    (long : Long (arrays wr wi xr xi sq)) (begin : Prepared s n xs xr xi sq xr1 xi1 sq1 ps ss) (runs : Runs s g limit (arrays wr wi xr1 xi1 sq1) ps ss xs a' ypart mpart r) where
-  mid-long : Long a'
-  mid-long = runs.long (record { xr = begin.entered.re.long ∙ long.xr; xi = begin.entered.im.long ∙ long.xi; q = begin.squared.long ∙ long.q })
-
-  pub finish-fits : (length a'.xr ≡ 288) × ((length a'.xi ≡ 288) × (length a'.q ≡ 288))
-  finish-fits = let l = mid-long in (l.xr, (l.xi, l.q))
-
-  ended-long : (p : ℕ) (xr'' xi'' sq'' : List Float) → Finished n g.m p a'.xr a'.xi a'.q xr'' xi'' sq'' → Long (arrays a'.wr a'.wi xr'' xi'' sq'')
-  ended-long p xr'' xi'' sq'' e =
-      let l = mid-long in
-      record { xr = e.xr_back.long ∙ e.xr_forth.long ∙ l.xr; xi = e.xi_back.long ∙ e.xi_forth.long ∙ l.xi; q = e.sq_back.long ∙ l.q }
-
+    (begin : Prepared s n xs xr xi sq xr1 xi1 sq1 ps ss) (runs : Runs s g limit (arrays wr wi xr1 xi1 sq1) ps ss xs a' ypart mpart r) where
   ready : (w h : List Float) → n ≤ 63 → length xs ≤ 128 → Setting g n limit → Holds n g.m 64 (arrays wr wi xr xi sq) (equalizer s w h) → RunReady s g n limit (arrays wr wi xr1 xi1 sq1) ps ss xs w h
   ready w h ln most set hold = record {
     setting = set;
@@ -92,24 +81,22 @@ module _ (s : EqualizeState) (g : Shape) (n : ℕ) (limit wr wi xr xi sq xr1 xi1
       }
 
 pub whole_run : (s : EqualizeState) (g : Shape) (n : ℕ) (limit wr wi xr xi sq xr1 xi1 sq1 ps ss xs ys : List Float) (ms : List ℕ) (i e : ℕ) (a' : Arrays) (ypart : List Float) (mpart : List ℕ) (r : EqualizeState)
-    (xr'' xi'' sq'' : List Float) → i ≤ e → e ≤ i + 64 → e ≤ length ms → length xs ≡ 2 * length ms → n ≤ 63 → Fits g → Long (arrays wr wi xr xi sq)
+    (xr'' xi'' sq'' : List Float) → i ≤ e → e ≤ i + 64 → e ≤ length ms → length xs ≡ 2 * length ms → n ≤ 63
     → Prepared s n (mid_of (2 * i) (2 * e - 2 * i) xs) xr xi sq xr1 xi1 sq1 ps ss
     → Runs s g limit (arrays wr wi xr1 xi1 sq1) ps ss (mid_of (2 * i) (2 * e - 2 * i) xs) a' ypart mpart r
     → Finished n g.m (64 - (e - i)) a'.xr a'.xi a'.q xr'' xi'' sq''
     → WholeRun s g n limit (arrays wr wi xr xi sq) xs ys ms i e (arrays a'.wr a'.wi xr'' xi'' sq'') (put_mid (2 * i) (2 * e - 2 * i) ys ypart) (put_mid i (e - i) ms mpart) r
-whole_run s g n limit wr wi xr xi sq xr1 xi1 sq1 ps ss xs ys ms i e a' ypart mpart r xr'' xi'' sq'' a b l input ln f long begin runs ends =
+whole_run s g n limit wr wi xr xi sq xr1 xi1 sq1 ps ss xs ys ms i e a' ypart mpart r xr'' xi'' sq'' a b l input ln begin runs ends =
     let x = mid_of (2 * i) (2 * e - 2 * i) xs in
     let lx = part_xs xs ys ms i e a b l input in
     let len : length mpart ≡ e - i = omega (arith, runs.input, lx) in
     let ends' : Finished n g.m (64 - length mpart) a'.xr a'.xi a'.q xr'' xi'' sq'' = rw len ends in
     record {
-      lanes = runs.lanes;
-      long = ended-long s g n limit wr wi xr xi sq xr1 xi1 sq1 ps ss x a' ypart mpart r long begin runs (64 - (e - i)) xr'' xi'' sq'' ends;
       counts = runs.counts;
       part_done = λ w h ok set hold. record {
         part = ypart;
         part_marks = mpart;
-        after = after s g n limit wr wi xr xi sq xr1 xi1 sq1 ps ss x a' ypart mpart r long begin runs w h ln f.back (omega (arith, lx, a, b)) ok set hold xr'' xi'' sq'' ends';
+        after = after s g n limit wr wi xr xi sq xr1 xi1 sq1 ps ss x a' ypart mpart r begin runs w h ln g.fits.back (omega (arith, lx, a, b)) ok set hold xr'' xi'' sq'' ends';
         out = refl;
         marks = refl;
       };

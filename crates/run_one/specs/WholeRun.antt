@@ -5,15 +5,15 @@ use Rattle.types.specs.declared.EqualizeState.{EqualizeState}
 use Rattle.definition.specs.Packed.{equalizer}
 use Rattle.definition.specs.Sample.{Equalizer}
 use Rattle.definition.specs.Rules.{accepted_def, rule_r4}
-use Rattle.lanes.specs.Arrays.{Arrays, Long}
+use Rattle.lanes.specs.Arrays.{Arrays}
 use Rattle.lanes.specs.Holds.{Holds}
 use Rattle.lanes.specs.Between.{Between}
 use Rattle.lanes.specs.Powers.{square_at}
 use Rattle.lanes_prepare.specs.Entered.{Entered}
 use Rattle.lanes_prepare.specs.Clock.{StepSizes}
 use Rattle.lanes_load.specs.Load.{Moved}
-use Rattle.run_samples.specs.declared.Shape.{Shape}
-use Rattle.run_samples.specs.Sample.{Lanes, Setting}
+use Rattle.lanes.specs.declared.Shape.{Shape}
+use Rattle.run_samples.specs.Sample.{Setting}
 use Rattle.run_samples.specs.Run.{Powered, After}
 
 -- what `prepare_run` leaves: the samples xs put in, squares of the forward window, the powers ps and the step sizes ss
@@ -23,11 +23,6 @@ pub record Prepared (s : EqualizeState) (n : ℕ) (xs xr xi sq xr' xi' sq' ps ss
   pub squared : Between (square_at xr' xi') from (64 + n) sq sq'
   pub powers : Powered n (64 - length xs / 2) xr' xi' ps
   pub sizes : StepSizes s ps (64 - length xs / 2) ss
-
--- the places for powers and step sizes
-pub record Room (ps ss : List Float) : Type 0 where
-  pub ps_long : length ps ≡ 64
-  pub ss_long : length ss ≡ 64
 
 -- what `finish_run` leaves
 pub record Finished (n m p : ℕ) (xr xi sq xr' xi' sq' : List Float) : Type 0 where
@@ -48,8 +43,6 @@ pub record PartDone (n m : ℕ) (q : Equalizer) (xs ys : List Float) (ms : List 
   pub marks : ms' ≡ put_mid i (e - i) ms part_marks
 
 pub record WholeRun (s : EqualizeState) (g : Shape) (n : ℕ) (limit : List Float) (a : Arrays) (xs ys : List Float) (ms : List ℕ) (i e : ℕ) (a' : Arrays) (ys' : List Float) (ms' : List ℕ) (r : EqualizeState) : Type 0 where
-  pub lanes : Lanes a'.wr a'.wi
-  pub long : Long a'
   pub counts : rule_r4 r ≡ true
   pub part_done : (w h : List Float) → accepted_def (equalizer s w h) ≡ true → Setting g n limit → Holds n g.m 64 a (equalizer s w h)
       → PartDone n g.m (equalizer s w h) xs ys ms i e a' ys' ms' r

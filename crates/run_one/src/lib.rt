@@ -1,61 +1,40 @@
 // One run of a block: its samples put in and what is made ahead of them, the samples, and the windows back to their place.
 #![tactic(auto)]
 
-ghost use Rattle.std.specs.Prelude.{◌≡◌, true, ◌+◌, ◌-◌, ◌*◌, ◌/◌, ◌≤◌, length};
+ghost use Rattle.std.specs.Prelude.{◌≡◌, true, ◌+◌, ◌-◌, ◌*◌, ◌≤◌, length};
 ghost use Rattle.tables.specs.Table.{cos_bits};
 ghost use Rattle.definition.specs.Rules.{rule_r4};
-ghost use Rattle.lanes.specs.Arrays.{arrays, Long};
-ghost use Rattle.run_samples.specs.Sample.{Fits, Lanes};
-ghost use Rattle.run_one.specs.WholeRun.{Room, Prepared, Finished, WholeRun};
+ghost use Rattle.lanes.specs.Arrays.{arrays_of};
+ghost use Rattle.run_one.specs.WholeRun.{Prepared, Finished, WholeRun};
 
-use run_samples::Shape;
+use lanes::{RUN, Shape, Weights, Window};
+use lanes_prepare::Ahead;
 use types::EqualizeState;
 
 // The samples of a run into the window, and what depends on them alone.
-fn prepare_run(
-    s: EqualizeState,
-    xr: &mut [f32; 288],
-    xi: &mut [f32; 288],
-    q: &mut [f32; 288],
-    power: &mut [f32; 64],
-    steps: &mut [f32; 64],
-    input: &[f32],
-    n: usize,
-)
-    requires xr_len { (length xr.old ≡ 288) × ((length xi.old ≡ 288) × (length q.old ≡ 288)) }
-    requires room { Room power.old steps.old }
-    requires input_len_bound { (length input.now ≤ 128) × (n ≤ 63) }
-    ensures prepared { Prepared s n input.now xr.old xi.old q.old xr.new xi.new q.new power.new steps.new }
-    ensures room_2 { Room power.new steps.new }
+fn prepare_run(s: EqualizeState, h: &mut Window, ahead: &mut Ahead, input: &[f32], n: usize)
+    requires { (length input.now ≤ 128) × (n ≤ 63) }
+    ensures { Prepared s n input.now h.old.re h.old.im h.old.squares h.new.re h.new.im h.new.squares ahead.new.power ahead.new.steps }
 {
-    let first = lanes::RUN - input.len() / 2;
+    let first = RUN - input.len() / 2;
     let from = first / 16 * 16;
-    lanes_prepare::enter(xr, xi, input);
-    lanes_prepare::squares(q, xr, xi, from, lanes::RUN + n);
-    lanes_prepare::powers(power, q, from, n);
-    lanes_prepare::sizes(steps, power, s, from);
+    lanes_prepare::enter(h, input);
+    lanes_prepare::squares(h, from, RUN + n);
+    lanes_prepare::powers(&mut ahead.power, &h.squares, from, n);
+    lanes_prepare::sizes(ahead, s, from);
 }
 
 // The windows of the last sample to where the next run looks for them.
-fn finish_run(
-    xr: &mut [f32; 288],
-    xi: &mut [f32; 288],
-    q: &mut [f32; 288],
-    len: usize,
-    n: usize,
-    m: usize,
-)
-    requires xr_len { (length xr.old ≡ 288) × ((length xi.old ≡ 288) × (length q.old ≡ 288)) }
-    requires len_bound { (len ≤ 64) × ((n ≤ 63) × (m ≤ 63)) }
-    ensures { Finished n m (64 - len) xr.old xi.old q.old
-        xr.new xi.new q.new }
+fn finish_run(h: &mut Window, len: usize, n: usize, m: usize)
+    requires { (len ≤ 64) × ((n ≤ 63) × (m ≤ 63)) }
+    ensures { Finished n m (64 - len) h.old.re h.old.im h.old.squares h.new.re h.new.im h.new.squares }
 {
-    let first = lanes::RUN - len;
-    lanes_load::moved(xr, first, lanes::RUN, n);
-    lanes_load::moved(xi, first, lanes::RUN, n);
-    lanes_load::moved(xr, first + 152, 216, m);
-    lanes_load::moved(xi, first + 152, 216, m);
-    lanes_load::moved(q, first + 152, 216, m);
+    let first = RUN - len;
+    lanes_load::moved(&mut h.re, first, RUN, n);
+    lanes_load::moved(&mut h.im, first, RUN, n);
+    lanes_load::moved(&mut h.re, first + 152, 216, m);
+    lanes_load::moved(&mut h.im, first + 152, 216, m);
+    lanes_load::moved(&mut h.squares, first + 152, 216, m);
 }
 
 // One run: the samples i .. e, at most 64.
@@ -64,14 +43,10 @@ pub fn run(
     t: &[u32; 4097],
     g: Shape,
     n: usize,
-    wr: &mut [f32; 144],
-    wi: &mut [f32; 144],
+    w: &mut Weights,
     limit: &[f32; 144],
-    xr: &mut [f32; 288],
-    xi: &mut [f32; 288],
-    q: &mut [f32; 288],
-    power: &mut [f32; 64],
-    steps: &mut [f32; 64],
+    h: &mut Window,
+    ahead: &mut Ahead,
     input: &[f32],
     output: &mut [f32],
     marks: &mut [u8],
@@ -80,38 +55,27 @@ pub fn run(
 ) -> EqualizeState
     requires t_value { t.now ≡ cos_bits }
     requires input_len { (length input.now ≡ 2 * length marks.old) × (length output.old ≡ 2 * length marks.old) }
-    requires n_bound { (n ≤ 63) × Fits g }
+    requires n_bound { n ≤ 63 }
     requires i_le_e { (i ≤ e) × ((e ≤ i + 64) × (e ≤ length marks.old)) }
-    requires lanes { Lanes wr.old wi.old }
-    requires long { Long (arrays wr.old wi.old xr.old xi.old q.old) }
-    requires room { Room power.old steps.old }
     requires state_value { rule_r4 state ≡ true }
-    ensures whole_run { WholeRun state g n limit.now
-        (arrays wr.old wi.old xr.old xi.old q.old)
-        input.now output.old marks.old i e
-        (arrays wr.new wi.new xr.new xi.new q.new)
-        output.new marks.new result }
-    ensures room_2 { Room power.new steps.new }
+    ensures { WholeRun state g n limit.now (arrays_of w.old h.old) input.now output.old marks.old i e
+        (arrays_of w.new h.new) output.new marks.new result }
 {
     let a = 2 * i;
     let b = 2 * e;
-    prepare_run(state, xr, xi, q, power, steps, &input[a..b], n);
+    prepare_run(state, h, ahead, &input[a..b], n);
     let r = run_samples::run(
         state,
         t,
         g,
-        wr,
-        wi,
+        w,
         limit,
-        xr,
-        xi,
-        q,
-        power,
-        steps,
+        h,
+        ahead,
         &input[a..b],
         &mut output[a..b],
         &mut marks[i..e],
     );
-    finish_run(xr, xi, q, e - i, n, g.m);
+    finish_run(h, e - i, n, g.m);
     r
 }

@@ -3,5 +3,7 @@ use Rattle.run_one.proofs.Start.{prepared}
 use native.Mathlib.Omega.{arith}
 use Rattle.run_one.proofs.prepare_run.Goals as goal
 
-pub returns-clause-prepared : goal.returns-clause-prepared
-returns-clause-prepared c = prepared _ _ _ _ _ _ _ _ _ _ _ _ _ (omega arith) c.enter.ensures c.squares.ensures c.powers.ensures c.sizes.ensures.step_sizes
+pub returns : goal.returns
+returns c =
+    let made = prepared _ _ _ _ _ _ _ _ _ _ _ _ _ (omega arith) c.enter.ensures.entered (rw c.enter.ensures.squares at c.squares.ensures.squared) c.powers.ensures c.sizes.ensures.sizes in
+    rw (c.squares.ensures.re, c.squares.ensures.im, c.sizes.ensures.power) made
