@@ -10,12 +10,12 @@ use Rattle.types.specs.declared.EqualizeState.{EqualizeState}
 use Rattle.definition.specs.Packed.{equalizer}
 use Rattle.definition.specs.Sample.{Equalizer}
 use Rattle.definition.specs.Rules.{accepted_def, rule_r4}
-use Rattle.lanes.specs.Arrays.{Arrays, Long}
+use Rattle.lanes.specs.Arrays.{Arrays}
 use Rattle.lanes.specs.Holds.{Holds}
-use Rattle.run_samples.specs.declared.Shape.{Shape}
-use Rattle.run_samples.specs.Sample.{Lanes, Setting}
+use Rattle.lanes.specs.declared.Shape.{Shape}
+use Rattle.run_samples.specs.Sample.{Setting}
 use Rattle.run_block.specs.Block.{AllRuns}
-use Rattle.run_one.specs.WholeRun.{Room, WholeRun}
+use Rattle.run_one.specs.WholeRun.{WholeRun}
 use Rattle.run_block.proofs.Part.{progress-run}
 use Rattle.definition_laws.proofs.Progress.{Progress, progress_none, progress-all}
 
@@ -26,10 +26,7 @@ pub record BlockReached (n m : ℕ) (q₀ : Equalizer) (xs : List Float) (a : Ar
   pub done : Progress q₀ xs (equalizer s weights window) ys ms i (2 * i)
   pub holds : Holds n m 64 a (equalizer s weights window)
 
-pub record BlockLoop (s₀ : EqualizeState) (g : Shape) (n : ℕ) (limit : List Float) (a₀ : Arrays) (xs ys₀ : List Float) (ms₀ : List ℕ) (a : Arrays) (ys : List Float) (ms : List ℕ) (ps ss : List Float) (s : EqualizeState) (i : ℕ) : Type 0 where
-  pub lanes : Lanes a.wr a.wi
-  pub long : Long a
-  pub room : Room ps ss
+pub record BlockLoop (s₀ : EqualizeState) (g : Shape) (n : ℕ) (limit : List Float) (a₀ : Arrays) (xs ys₀ : List Float) (ms₀ : List ℕ) (a : Arrays) (ys : List Float) (ms : List ℕ) (s : EqualizeState) (i : ℕ) : Type 0 where
   pub counts : rule_r4 s ≡ true
   pub here : i ≤ length ms
   pub input : length xs ≡ 2 * length ms
@@ -38,12 +35,8 @@ pub record BlockLoop (s₀ : EqualizeState) (g : Shape) (n : ℕ) (limit : List 
   pub long_ms : length ms ≡ length ms₀
   pub reached : (w h : List Float) → accepted_def (equalizer s₀ w h) ≡ true → Setting g n limit → Holds n g.m 64 a₀ (equalizer s₀ w h) → BlockReached n g.m (equalizer s₀ w h) xs a ys ms s i
 
-pub loop_none : (s : EqualizeState) (g : Shape) (n : ℕ) (limit : List Float) (a : Arrays) (xs ys : List Float) (ms : List ℕ) (ps ss : List Float) → Lanes a.wr a.wi → Long a → Room ps ss
-    → rule_r4 s ≡ true → length xs ≡ 2 * length ms → length ys ≡ 2 * length ms → BlockLoop s g n limit a xs ys ms a ys ms ps ss s 0
-loop_none s g n limit a xs ys ms ps ss l k r c i o = record {
-  lanes = l;
-  long = k;
-  room = r;
+pub loop_none : (s : EqualizeState) (g : Shape) (n : ℕ) (limit : List Float) (a : Arrays) (xs ys : List Float) (ms : List ℕ) → rule_r4 s ≡ true → length xs ≡ 2 * length ms → length ys ≡ 2 * length ms → BlockLoop s g n limit a xs ys ms a ys ms s 0
+loop_none s g n limit a xs ys ms c i o = record {
   counts = c;
   here = omega arith;
   input = i;
@@ -53,14 +46,11 @@ loop_none s g n limit a xs ys ms ps ss l k r c i o = record {
   reached = λ w h ok set hold. record { weights = w; window = h; done = progress_none (equalizer s w h) xs ys ms ok; holds = hold };
 }
 
-module _ (s₀ : EqualizeState) (g : Shape) (n : ℕ) (limit : List Float) (a₀ : Arrays) (xs ys₀ : List Float) (ms₀ : List ℕ) (a : Arrays) (ys : List Float) (ms : List ℕ) (ps ss : List Float) (s : EqualizeState) (i : ℕ)
-    (o : BlockLoop s₀ g n limit a₀ xs ys₀ ms₀ a ys ms ps ss s i) where
-  pub loop-more : (e : ℕ) (a' : Arrays) (ys' : List Float) (ms' : List ℕ) (ps' ss' : List Float) (r : EqualizeState) → i ≤ e → e ≤ length ms → length ys' ≡ length ys → length ms' ≡ length ms
-      → WholeRun s g n limit a xs ys ms i e a' ys' ms' r → Room ps' ss' → BlockLoop s₀ g n limit a₀ xs ys₀ ms₀ a' ys' ms' ps' ss' r e
-  loop-more e a' ys' ms' ps' ss' r l k ly lm b room = record {
-    lanes = b.lanes;
-    long = b.long;
-    room = room;
+module _ (s₀ : EqualizeState) (g : Shape) (n : ℕ) (limit : List Float) (a₀ : Arrays) (xs ys₀ : List Float) (ms₀ : List ℕ) (a : Arrays) (ys : List Float) (ms : List ℕ) (s : EqualizeState) (i : ℕ)
+    (o : BlockLoop s₀ g n limit a₀ xs ys₀ ms₀ a ys ms s i) where
+  pub loop-more : (e : ℕ) (a' : Arrays) (ys' : List Float) (ms' : List ℕ) (r : EqualizeState) → i ≤ e → e ≤ length ms → length ys' ≡ length ys → length ms' ≡ length ms
+      → WholeRun s g n limit a xs ys ms i e a' ys' ms' r → BlockLoop s₀ g n limit a₀ xs ys₀ ms₀ a' ys' ms' r e
+  loop-more e a' ys' ms' r l k ly lm b = record {
     counts = b.counts;
     here = omega arith;
     input = omega (arith, lm, o.input);

@@ -1,14 +1,13 @@
 -- A call: the shape, the caller's slices into the arrays, all runs, and back. Assumes nothing.
 use Prim.Native.Nat.{ℕ, ◌+◌, ◌*◌, ◌/◌, ◌%◌, ◌≤◌}
-use mathlib.Core.Path.{◌≡◌, sym, ◌∙◌, ap, subst}
+use mathlib.Core.Path.{◌≡◌, sym, ◌∙◌, subst}
 use mathlib.Core.Bool.{true}
 use mathlib.Core.List.{List}
 use native.Mathlib.Omega.{arith}
-use lib.ListN.{length, replicate, length-replicate}
+use lib.ListN.{length}
 use lib.Dec.{T}
 use lib.Ieee.{Float}
 use Rattle.types.specs.declared.EqualizeState.{EqualizeState}
-use Rattle.types.specs.Bits.{zero32}
 use Rattle.definition.specs.Slices.{samples_of}
 use Rattle.definition.specs.Packed.{equalizer, Ran}
 use Rattle.definition.specs.Packed as packed
@@ -23,7 +22,7 @@ use Rattle.lanes.specs.Powers.{square_at}
 use Rattle.lanes_load.specs.Load.{Loaded, Joined}
 use Rattle.lanes_load.proofs.Load.{load_holds}
 use Rattle.lanes_load.proofs.Store.{weights_back, window_back}
-use Rattle.run_samples.specs.declared.Shape.{Shape}
+use Rattle.lanes.specs.declared.Shape.{Shape}
 use Rattle.run_samples.specs.Sample.{Formed, Setting}
 use Rattle.run_block.specs.Block.{AllRuns, Empty, Loads, Stores, Asked}
 
@@ -33,15 +32,6 @@ module _ (n m : ℕ) (w h : List Float) (a₀ : Arrays) (e : Empty a₀) (wr₁ 
     (l5 : Between (square_at xr xi) 216 (216 + m) a₀.q sq) where
   pub loads : Loads n m w h (arrays wr wi xr xi sq)
   loads = record {
-    lanes = record {
-      wr_long = l2.re.long ∙ l1.re.long ∙ ap length e.wr ∙ simp length-replicate;
-      wi_long = l2.im.long ∙ l1.im.long ∙ ap length e.wi ∙ simp length-replicate;
-    };
-    long = record {
-      xr = l4.re.long ∙ l3.re.long ∙ ap length e.xr ∙ simp length-replicate;
-      xi = l4.im.long ∙ l3.im.long ∙ ap length e.xi ∙ simp length-replicate;
-      q = l5.long ∙ ap length e.q ∙ simp length-replicate;
-    };
     loaded = λ s ok f b.
         load_holds n m wr₁ wi₁ wr wi xr₁ xi₁ xr xi sq (equalizer s w h) (accepted_parts (equalizer s w h) (subst T (sym ok) tt)) f b
         (rw (e.wr, e.wi) at l1) l2 (rw (e.xr, e.xi) at l3) l4 (rw e.q at l5);
@@ -70,9 +60,6 @@ module _ (s : EqualizeState) (w h xs ys : List Float) (ms : List ℕ) (n m : ℕ
 
   pub asked-r4 : rule_r4 s ≡ true
   asked-r4 = is_true (rule_r4 s) accepted.r4
-
-pub zeros_long : (k : ℕ) (l : List Float) → l ≡ replicate k zero32 → length l ≡ k
-zeros_long k l e = ap length e ∙ simp length-replicate
 
 pub call_is : (s : EqualizeState) (w h xs ys₀ : List Float) (ms₀ : List ℕ) (n m : ℕ) (g : Shape) (limit : List Float) (a : Arrays) (wr wi xr xi sq ys : List Float) (ms : List ℕ) (r : EqualizeState) (w' h' : List Float)
     → Asked s w h xs ys₀ ms₀ n m → Formed n m g → Limits limit 0 0 n × Limits limit 72 (n % 8) m → Loads n m w h a → AllRuns s g n limit a xs (arrays wr wi xr xi sq) ys ms r

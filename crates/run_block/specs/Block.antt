@@ -5,10 +5,10 @@ use Rattle.types.specs.Bits.{zero32}
 use Rattle.definition.specs.Packed.{equalizer, ServedBlock}
 use Rattle.definition.specs.Sample.{Equalizer, forward, feedback}
 use Rattle.definition.specs.Rules.{accepted_def}
-use Rattle.lanes.specs.Arrays.{Arrays, arrays, Long}
+use Rattle.lanes.specs.Arrays.{Arrays, arrays}
 use Rattle.lanes.specs.Holds.{Holds}
-use Rattle.run_samples.specs.declared.Shape.{Shape}
-use Rattle.run_samples.specs.Sample.{Lanes, Setting}
+use Rattle.lanes.specs.declared.Shape.{Shape}
+use Rattle.run_samples.specs.Sample.{Setting}
 use Rattle.run_samples.specs.Run.{After}
 
 -- all runs of a block
@@ -25,8 +25,6 @@ pub record Empty (a : Arrays) : Type 0 where
 
 -- the caller's slices to arrays
 pub record Loads (n m : ℕ) (w h : List Float) (a : Arrays) : Type 0 where
-  pub lanes : Lanes a.wr a.wi
-  pub long : Long a
   pub loaded : (s : EqualizeState) → accepted_def (equalizer s w h) ≡ true → forward (equalizer s w h) ≡ n → feedback (equalizer s w h) ≡ m → Holds n m 64 a (equalizer s w h)
 
 -- arrays to the caller's slices

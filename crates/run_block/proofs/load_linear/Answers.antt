@@ -1,8 +1,9 @@
--- `load` fills empty arrays from the caller's slices: by what `split` and `squares` leave, and the law of a call's start.
+-- `load_linear` fills empty arrays from the caller's slices: by what `split` and `squares` leave, and the law of a call's start.
 use Rattle.run_block.proofs.Call.{loads}
 use Rattle.run_block.proofs.load_linear.Goals as goal
 
 pub returns : goal.returns
 returns c =
-    loads _ _ _ _ _ c.requires.empty _ _ _ _ _ _ _ _ _ c.split.ensures c.split-2.ensures
-    c.split-3.ensures c.split-4.ensures c.squares.ensures
+    rw (c.squares.ensures.re, c.squares.ensures.im)
+    (loads _ _ _ _ _ c.requires.empty _ _ _ _ _ _ _ _ _ c.split.ensures c.split-2.ensures
+    c.split-3.ensures c.split-4.ensures c.squares.ensures.squared)
