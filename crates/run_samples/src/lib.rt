@@ -46,8 +46,7 @@ fn hear(
         w.new.re w.new.im }
 {
     let r = steps::follow(s, t, y, forward, size);
-    let u = r.update;
-    lanes_adapt::update_split(u, w, limit, h, g, at);
+    lanes_adapt::update_split(r.update, w, limit, h, g, at);
     steps::heard(r)
 }
 
@@ -68,9 +67,7 @@ fn take(
     requires at_bound { at ≤ 63 }
     ensures { Takes s g at x forward ahead limit.now (arrays_of w.old h.now) w.new.re w.new.im result }
 {
-    let f = lanes_sample::measure(
-        g.m, g.lanes, g.more, g.front, at, &w.re, &w.im, &h.re, &h.im, &h.squares, forward,
-    );
+    let f = lanes_sample::measure(g, at, w, h, forward);
     let y = f.y;
     if !numeric::finite_c(x) {
         return steps::unheard(s, Mark::Blank);
@@ -101,13 +98,13 @@ fn sample(
     ensures { Samples s g at x forward ahead limit.now (arrays_of w.old h.old) (arrays_of w.new h.new) result }
 {
     let r = take(s, t, g, at, x, forward, ahead, w, limit, h);
-    let fed = r.fed;
-    let track = r.track;
-    let out = r.out;
-    let mark = r.mark;
-    lanes_sample::feed(&mut h.re, &mut h.im, &mut h.squares, at + 152, fed);
-    let state = record_mode::advance(steps::with_track(s, track));
-    Sampled { state, out, mark }
+    lanes_sample::feed(h, at + 152, r.fed);
+    let state = record_mode::advance(steps::with_track(s, r.track));
+    Sampled {
+        state,
+        out: r.out,
+        mark: r.mark,
+    }
 }
 
 // The samples of a run, at most 64, which stand in the forward window: the first at 63.
@@ -149,9 +146,8 @@ pub fn run(
             limit,
             h,
         );
-        let out = r.out;
-        output[j] = out.re;
-        output[j + 1] = out.im;
+        output[j] = r.out.re;
+        output[j + 1] = r.out.im;
         marks[k] = u8::from(r.mark);
         s = r.state;
     }

@@ -12,4 +12,4 @@ returns c =
     let at-feed = c.feed in
     let at_take = c.take-r in
     let asked = c.requires in
-    sampled _ _ _ _ _ _ _ _ _ _ _ _ _ _ _ _ _ _ _ _ asked.at_bound asked.s_value at_take.ensures at-feed.ensures.xr_after at-feed.ensures.xi_after at-feed.ensures.q_after c.with_track.ensures c.advance-state.ensures
+    sampled _ _ _ _ _ _ _ _ _ _ _ _ _ _ _ _ _ _ _ _ asked.at_bound asked.s_value at_take.ensures at-feed.ensures.re at-feed.ensures.im at-feed.ensures.squares c.with_track.ensures c.advance-state.ensures
