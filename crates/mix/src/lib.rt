@@ -2,7 +2,6 @@
 #![tactic(auto)]
 
 ghost use Rattle.std.specs.Prelude.{◌≡◌, ◌<◌, ◌+◌, ◌%◌};
-ghost use Rattle.tables.specs.Table.{cos_bits};
 ghost use Rattle.definition.specs.Floats.{◌+f◌, ◌-f◌, ◌*f◌};
 ghost use Rattle.definition.specs.Phase.{low_part, line_at, interp_pair, cos_sin};
 
@@ -30,16 +29,7 @@ fn line(a: f32, b: f32, f: f32) -> f32
     (b - a) * f + a
 }
 
-// The straight line from entry k to the next, from the borrowed table.
-fn line_in(t: &[u32; 4097], k: usize, f: f32) -> f32
-    requires t_value { t.now ≡ cos_bits }
-    requires k_bound { k < 4096 }
-    ensures { result ≡ line_at k f }
-{
-    line(tables::lent(t, k), tables::lent(t, k + 1), f)
-}
-
-// The same, without a borrowed table.
+// The straight line from entry k to the next.
 fn line_at(k: usize, f: f32) -> f32
     requires { k < 4096 }
     ensures { result ≡ line_at k f }
@@ -47,22 +37,8 @@ fn line_at(k: usize, f: f32) -> f32
     line(cosine::cos_f32(k), cosine::cos_f32(k + 1), f)
 }
 
-// (cos, sin) of the phase p, from the borrowed table: the fraction is worked out once, and the sine has the index (idx + 3072) mod 4096. These are c and
-// s of step 4 too: at phase 0 the table gives (1, 0).
-pub fn interp_f32_pair_in(t: &[u32; 4097], p: u32) -> CosSin
-    requires { t.now ≡ cos_bits }
-    ensures value { result ≡ interp_pair p }
-    ensures value_2 { result ≡ cos_sin p }
-{
-    let idx = (p >> 20) as usize;
-    let f = low_part(p);
-    CosSin {
-        c: line_in(t, idx, f),
-        s: line_in(t, sine_index(idx), f),
-    }
-}
-
-// The same, without a borrowed table: for one sample.
+// (cos, sin) of the phase p: the fraction is worked out once, and the sine has the index (idx + 3072) mod 4096. These are c and s of step 4 too: at
+// phase 0 the table gives (1, 0).
 pub fn interp_f32_pair(p: u32) -> CosSin
     ensures value { result ≡ interp_pair p }
     ensures value_2 { result ≡ cos_sin p }
@@ -73,4 +49,12 @@ pub fn interp_f32_pair(p: u32) -> CosSin
         c: line_at(idx, f),
         s: line_at(sine_index(idx), f),
     }
+}
+
+// The same, for callers that still hold a borrowed table: nothing of it is read.
+pub fn interp_f32_pair_in(_t: &[u32; 4097], p: u32) -> CosSin
+    ensures value { result ≡ interp_pair p }
+    ensures value_2 { result ≡ cos_sin p }
+{
+    interp_f32_pair(p)
 }

@@ -1,7 +1,7 @@
 // The cosine table, in the place of the Rust's COS_F32.
 #![tactic(auto)]
 
-ghost use Rattle.std.specs.Prelude.{◌≡◌, ◌<◌};
+ghost use Rattle.std.specs.Prelude.{◌≡◌, ◌<◌, get_or};
 ghost use Rattle.tables.specs.Table.{cos_at, cos_bits};
 
 // Entry k is the cosine of k / 4096 turn, rounded to the nearest f32, as its bits; entries 1024 and 3072 are +0.
@@ -521,18 +521,18 @@ pub const COS_BITS: [u32; 4097] = [
     0x3f800000,
 ];
 
-// COS_BITS is the table of specs/. No code calls this: its proof is the check.
-fn stored() -> [u32; 4097]
-    ensures { result ≡ cos_bits }
+// Entry k, as its bits.
+pub fn bits(k: usize) -> u32
+    requires { k < 4097 }
+    ensures { result ≡ get_or cos_bits k 0 }
 {
-    COS_BITS
+    COS_BITS[k]
 }
 
-// Entry k of the borrowed table.
-pub fn lent(t: &[u32; 4097], k: usize) -> f32
-    requires t_value { t.now ≡ cos_bits }
-    requires k_bound { k < 4097 }
+// Entry k.
+pub fn entry(k: usize) -> f32
+    requires { k < 4097 }
     ensures { result ≡ cos_at k }
 {
-    f32::from_bits(t[k])
+    f32::from_bits(bits(k))
 }

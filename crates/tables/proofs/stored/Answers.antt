@@ -1,8 +1,0 @@
--- `tables::stored` meets its contract: the constant is the table of specs/, by computation. Assumes nothing.
-use mathlib.Core.Path.{refl}
-use Rattle.tables.specs.Table.{cos_bits}
-use Rattle.tables.proofs.stored.Goals as goal
-
-pub returns : goal.returns
-unfolding cos_bits
-returns c = refl
