@@ -1,2 +1,0 @@
--- Keys: a table as a match on its index.
-pub mod Keys
