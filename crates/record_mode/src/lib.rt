@@ -12,10 +12,8 @@ pub fn advance(s: EqualizeState) -> EqualizeState
     requires { rule_r4 s ≡ true }
     ensures { result ≡ advanceDef s }
 {
-    let mode = s.mode;
-    let params = s.params;
-    let total = params.cma_symbols;
-    match mode {
+    let total = s.params.cma_symbols;
+    match s.mode {
         EqMode::Decision => s,
         EqMode::Cma => {
             if total == EqParams::NEVER_SWITCH {
@@ -23,9 +21,7 @@ pub fn advance(s: EqualizeState) -> EqualizeState
             }
             let count = s.count + 1;
             if count < total {
-                let mut t = s;
-                t.count = count;
-                return t;
+                return EqualizeState { count, ..s };
             }
             EqualizeState {
                 mode: EqMode::Decision,

@@ -8,11 +8,7 @@ ghost use Rattle.definition.specs.Slices.{zeros, start_weights};
 pub fn clear(x: &mut [f32])
     ensures { x.new ≡ zeros (length x.old) }
 {
-    let mut i = 0usize;
-    while i < x.len() {
-        x[i] = 0.0;
-        i += 1;
-    }
+    x.fill(0.0);
 }
 
 // The start weights, n of them: the centre forward tap at 1, the others at 0.
