@@ -6,15 +6,17 @@ use lib.ListN.{length}
 use lib.Dec.{eqb, ltb}
 use lib.Ieee.{Float, le}
 use lib.Ieee.Scale.{finite}
+use Rattle.std.specs.Float.{float_with_sign}
 use borrow.Author.Tests.{eq-eqb, ne_eqb}
 use Rattle.types.specs.declared.EqMode.TheVariants.{Cma, Decision}
 use Rattle.types.specs.declared.LoopGains.{LoopGains}
 use Rattle.types.specs.declared.EqualizeState.{EqualizeState}
-use Rattle.definition.specs.Floats.{tiny, max_freq, abs}
+use Rattle.definition.specs.Floats.{tiny, max_freq}
 use Rattle.definition.specs.Slices.{every}
 use Rattle.definition.specs.Gains.{phase_damping, loop_gains}
 use Rattle.definition.specs.Sample.{Equalizer, feedback, never_switch}
 use Rattle.definition.specs.Rules.{same_bits, feedback_fits, taps_fit, mu_fits, bw_fits, plus_zero, weight_fits, freq_fits, count_fits, rule_r1, rule_r2, rule_r3, rule_r4, rules}
+use Rattle.record_rules.proofs.Bits.{sign_abs}
 
 -- ---- R1
 
@@ -32,13 +34,13 @@ r2_is s g a b c d e p x y z u v = rw (x, y, z, u, v, p)
 
 -- ---- R3
 
-pub weight_is : (v m : Float) (a b : Bool) → a ≡ plus_zero v → b ≡ finite v → m ≡ abs v → (a || (b && le tiny m)) ≡ weight_fits v
+pub weight_is : (v m : Float) (a b : Bool) → a ≡ plus_zero v → b ≡ finite v → m ≡ float_with_sign false v → (a || (b && le tiny m)) ≡ weight_fits v
 unfolding weight_fits
-weight_is v m a b x y z = rw (x, y, z)
+weight_is v m a b x y z = rw (x, y, z, sign_abs v)
 
-pub freq_is : (v m : Float) (a : Bool) → a ≡ plus_zero v → m ≡ abs v → (a || (le tiny m && le m max_freq)) ≡ freq_fits v
+pub freq_is : (v m : Float) (a : Bool) → a ≡ plus_zero v → m ≡ float_with_sign false v → (a || (le tiny m && le m max_freq)) ≡ freq_fits v
 unfolding freq_fits
-freq_is v m a x z = rw (x, z)
+freq_is v m a x z = rw (x, z, sign_abs v)
 
 pub r3_is : (q : Equalizer) (a b c : Bool) → a ≡ every weight_fits q.weights → b ≡ every finite q.window → c ≡ freq_fits q.state.freq → (a && b && c) ≡ rule_r3 q
 unfolding rule_r3

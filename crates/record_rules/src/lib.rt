@@ -3,37 +3,23 @@
 
 ghost use Rattle.std.specs.Prelude.{◌≡◌, ◌-◌};
 ghost use Rattle.std.specs.Float.Ieee.Scale.{finite};
-ghost use Rattle.definition.specs.Floats.{abs};
 ghost use Rattle.definition.specs.Slices.{every};
 ghost use Rattle.definition.specs.Packed.{equalizer};
 ghost use Rattle.definition.specs.Rules.{same_bits, taps_fit, feedback_fits, mu_fits, bw_fits, plus_zero, rule_r1, rule_r2, weight_fits, freq_fits, rule_r3, rule_r4, rules as rulesDef};
 
 use types::{EqMode, EqParams, EqualizeState};
 
-// |v|
-fn magnitude(v: f32) -> f32
-    ensures { result ≡ abs v }
-{
-    if v < 0.0 {
-        return -v;
-    }
-    if v == 0.0 {
-        return 0.0;
-    }
-    v
-}
-
 // The same by bits, any two NaNs being the same.
 fn same_bits(x: f32, y: f32) -> bool
     ensures { result ≡ same_bits x y }
 {
-    if x != x {
-        return y != y;
+    if x.is_nan() {
+        return y.is_nan();
     }
-    if y != y {
+    if y.is_nan() {
         return false;
     }
-    f32::to_bits(x) == f32::to_bits(y)
+    x.to_bits() == y.to_bits()
 }
 
 // At most 63.
@@ -68,24 +54,24 @@ pub fn bw_fits(bw: f64) -> bool
 fn plus_zero(v: f32) -> bool
     ensures { result ≡ plus_zero v }
 {
-    if v != v {
+    if v.is_nan() {
         return false;
     }
-    f32::to_bits(v) == 0
+    v.to_bits() == 0
 }
 
 // +0, or finite and at least 1e-30 in magnitude.
 fn weight_fits(v: f32) -> bool
     ensures { result ≡ weight_fits v }
 {
-    plus_zero(v) | (numeric::is_finite(v) & (magnitude(v) >= numeric::TINY))
+    plus_zero(v) | (numeric::is_finite(v) & (v.abs() >= numeric::TINY))
 }
 
 // +0, or 1e-30 to 0.125 in magnitude.
 fn freq_fits(v: f32) -> bool
     ensures { result ≡ freq_fits v }
 {
-    let a = magnitude(v);
+    let a = v.abs();
     plus_zero(v) | ((a >= numeric::TINY) & (a <= EqualizeState::PHASE_MAX_FREQ))
 }
 
@@ -93,7 +79,7 @@ fn freq_fits(v: f32) -> bool
 pub fn forward(n: usize, m: usize) -> usize
     ensures { result ≡ n - m }
 {
-    if m <= n { n - m } else { 0 }
+    n.saturating_sub(m)
 }
 
 // R1: the taps, by the lengths of weights and window.
@@ -123,26 +109,14 @@ pub fn rule_r2(s: EqualizeState) -> bool
 fn all_fit(x: &[f32]) -> bool
     ensures { result ≡ every weight_fits x.now }
 {
-    let mut fit = true;
-    let mut i = 0usize;
-    while i < x.len() {
-        fit = fit & weight_fits(x[i]);
-        i += 1;
-    }
-    fit
+    x.iter().all(|v| weight_fits(*v))
 }
 
 // Whether every part is finite.
 pub fn all_finite(x: &[f32]) -> bool
     ensures { result ≡ every finite x.now }
 {
-    let mut ok = true;
-    let mut i = 0usize;
-    while i < x.len() {
-        ok = ok & numeric::is_finite(x[i]);
-        i += 1;
-    }
-    ok
+    x.iter().all(|v| numeric::is_finite(*v))
 }
 
 // R3: every weight and window part, and the frequency.
@@ -156,18 +130,11 @@ fn rule_r3(s: EqualizeState, w: &[f32], h: &[f32]) -> bool
 fn rule_r4(s: EqualizeState) -> bool
     ensures { result ≡ rule_r4 s }
 {
-    let mode = s.mode;
-    let p = s.params;
-    let total = p.cma_symbols;
-    let n = s.count;
-    match mode {
-        EqMode::Cma => {
-            if total == EqParams::NEVER_SWITCH {
-                return n == 0;
-            }
-            n < total
-        }
-        EqMode::Decision => !(total == EqParams::NEVER_SWITCH) & (n == total),
+    let total = s.params.cma_symbols;
+    match s.mode {
+        EqMode::Cma if total == EqParams::NEVER_SWITCH => s.count == 0,
+        EqMode::Cma => s.count < total,
+        EqMode::Decision => (total != EqParams::NEVER_SWITCH) & (s.count == total),
     }
 }
 

@@ -1,10 +1,11 @@
--- `record_rules::all_finite` says whether every part is finite: what has passed so far and what is left give the whole, at each turn. Assumes nothing.
-use native.Mathlib.Omega.{arith}
-use Rattle.record_rules.proofs.Elements.{every_more, every-all}
+-- `record_rules::all_finite` says whether every part is finite: `all` asks it of each. Assumes nothing.
+use mathlib.Core.Path.{◌∙◌}
+use Rattle.std.proofs.Common.{rules}
+use Rattle.std.proofs.lemmas.Iterator.{YieldsList-from_slice}
+use Rattle.std.proofs.lemmas.Iterator.Search.{all_from_yields_List}
+use lib.Ieee.Scale.{finite}
+use Rattle.record_rules.proofs.Elements.{every_is}
 use Rattle.record_rules.proofs.all_finite.Goals as goal
 
-pub loop-i-preserved : goal.loop-i-preserved
-loop-i-preserved c = (omega arith, search every_more)
-
 pub returns : goal.returns
-returns c = search every-all
+returns c = all_from_yields_List finite _ _ _ c.all.ensures.ran (YieldsList-from_slice c.args.x.now cc) (λ x b q k. search rules) ∙ every_is _ _
