@@ -1,4 +1,5 @@
 -- Laws that belong to no one function.
 pub mod Bits
 pub mod Elements
+pub mod Ranges
 pub mod Records

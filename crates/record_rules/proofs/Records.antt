@@ -38,9 +38,9 @@ pub weight_is : (v m : Float) (a b : Bool) → a ≡ plus_zero v → b ≡ finit
 unfolding weight_fits
 weight_is v m a b x y z = rw (x, y, z, sign_abs v)
 
-pub freq_is : (v m : Float) (a : Bool) → a ≡ plus_zero v → m ≡ float_with_sign false v → (a || (le tiny m && le m max_freq)) ≡ freq_fits v
+pub freq_is : (v m : Float) (a b : Bool) → a ≡ plus_zero v → m ≡ float_with_sign false v → b ≡ (le tiny m && le m max_freq) → (a || b) ≡ freq_fits v
 unfolding freq_fits
-freq_is v m a x z = rw (x, z, sign_abs v)
+freq_is v m a b x z y = rw (x, y, z, sign_abs v)
 
 pub r3_is : (q : Equalizer) (a b c : Bool) → a ≡ every weight_fits q.weights → b ≡ every finite q.window → c ≡ freq_fits q.state.freq → (a && b && c) ≡ rule_r3 q
 unfolding rule_r3

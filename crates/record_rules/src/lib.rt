@@ -33,21 +33,21 @@ pub fn feedback_fits(m: usize) -> bool
 pub fn taps_fit(n: usize) -> bool
     ensures { result ≡ taps_fit n }
 {
-    (n % 2 == 1) & (3 <= n) & (n <= 63)
+    (n % 2 == 1) & (3..=63).contains(&n)
 }
 
 // From 0.00001 to 1.
 pub fn check_mu(mu: f32) -> bool
     ensures { result ≡ mu_fits mu }
 {
-    (mu >= 0.00001) & (mu <= 1.0)
+    (0.00001..=1.0).contains(&mu)
 }
 
 // 0 of either sign, or 0.0001 to 0.2.
 pub fn bw_fits(bw: f64) -> bool
     ensures { result ≡ bw_fits bw }
 {
-    (bw == 0.0) | ((bw >= 0.0001) & (bw <= 0.2))
+    (bw == 0.0) | (0.0001..=0.2).contains(&bw)
 }
 
 // +0.
@@ -72,7 +72,7 @@ fn freq_fits(v: f32) -> bool
     ensures { result ≡ freq_fits v }
 {
     let a = v.abs();
-    plus_zero(v) | ((a >= numeric::TINY) & (a <= EqualizeState::PHASE_MAX_FREQ))
+    plus_zero(v) | (numeric::TINY..=EqualizeState::PHASE_MAX_FREQ).contains(&a)
 }
 
 // n - m, or 0 where there are fewer.
