@@ -1,9 +1,10 @@
 -- The magnitude and the bits of a float, and the tests that read them. Assumes nothing.
 use mathlib.Core.Path.{◌≡◌, refl, sym, ◌∙◌, ap, subst}
-use mathlib.Core.Bool.{Bool, true, false}
+use Prim.Native.Nat.{ℕ, ◌*◌}
+use mathlib.Core.Bool.{Bool, true, false, not, ◌&&◌, ◌||◌, beq}
 use borrow.Author.Tests.{eq-eqb, ne_eqb}
 use lib.Dec.{T, eqb}
-use lib.Ieee.{Float, nan, inf, fin, binary32, is_nan, fits, to_bits, of_bits}
+use lib.Ieee.{Float, nan, inf, fin, binary32, is_nan, fits, to_bits, of_bits, ne, eq, up, down}
 use lib.Ieee.Bits.{of_bits-to_bits}
 use lib.Ieee.Fits.{nan-fits}
 use Rattle.std.specs.Float.{float_with_sign}
@@ -16,6 +17,24 @@ unfolding float_with_sign
 sign_abs nan = refl
 sign_abs (inf s) = refl
 sign_abs (fin s m e) = refl
+
+-- a NaN alone is not equal to itself
+pub is_nan_lem : (f : Float) → ne f f ≡ true → f ≡ nan
+unfolding ne eq
+is_nan_lem nan h = refl
+is_nan_lem (inf true) h = absurd (subst T (sym h) tt)
+is_nan_lem (inf false) h = absurd (subst T (sym h) tt)
+is_nan_lem (fin s m e) h = absurd (subst T (level-self s (m * up e * down e)) (subst T (sym h) tt))
+  where
+    level-self : (s : Bool) (a : ℕ) → not (eqb a a && (beq s s || eqb a 0)) ≡ false
+    level-self true a = rw (eq-eqb a a refl)
+    level-self false a = rw (eq-eqb a a refl)
+
+pub no_nan : (f : Float) → ne f f ≡ false → T (not (is_nan f))
+unfolding is_nan ne eq
+no_nan nan h = absurd (subst T h tt)
+no_nan (inf s) h = tt
+no_nan (fin s m e) h = tt
 
 pub nan_is : (f : Float) → is_nan f ≡ true → f ≡ nan
 unfolding is_nan

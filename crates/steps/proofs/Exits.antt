@@ -75,13 +75,3 @@ pub step_is : (s : EqualizeState) (t : CosSin) (y : C32) (F m : Float) (z d : C3
     → ◌≡◌ {A = Stepped} (record { track = r; z = z; fed = fed; update = u }) (step_with s t y F m)
 unfolding step_with step_at aimed minus_c live ne
 step_is s t y F m z d a u fed r p1 p2 p3 p4 p5 p6 = rw (p6, p5, p4, p3, p2, p1)
-
--- ---- the step size
-module _ (s : EqualizeState) (P : Float) where
-  pub size-cma : s.mode ≡ Cma → (s.params.mu_cma /f (P +f nlms_eps)) ≡ step_size (mu_of s.mode s.params) P
-  unfolding step_size
-  size-cma e = rw e
-
-  pub size-decision : s.mode ≡ Decision → (s.params.mu_dd /f (P +f nlms_eps)) ≡ step_size (mu_of s.mode s.params) P
-  unfolding step_size
-  size-decision e = rw e

@@ -51,6 +51,10 @@ step_of s y F size = step_with s (cos_sin s.phase) y F size
 
 -- ---- how the code's values make up those of the definition
 
+-- the running numbers of the record s
+abbrev pub running_of : EqualizeState → Track
+running_of s = record { mse = s.mse; freq = s.freq; phase = s.phase }
+
 -- the record with the running numbers t
 abbrev pub with_track : EqualizeState → Track → EqualizeState
 with_track s t = with_running s s.mode s.count t.mse t.phase t.freq

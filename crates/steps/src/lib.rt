@@ -7,7 +7,7 @@ ghost use Rattle.types.specs.Bits.{one32};
 ghost use Rattle.definition.specs.Floats.{norm, zero_c, scaled_c, clip_c};
 ghost use Rattle.definition.specs.Phase.{phase_step};
 ghost use Rattle.definition.specs.Sample.{mse_after, godard_error, phase_error, mu_of, step_size};
-ghost use Rattle.steps.specs.Step.{track_of, aimed, update_if, step_with, step_of, with_track, heard_of, unheard_of};
+ghost use Rattle.steps.specs.Step.{track_of, aimed, update_if, step_with, step_of, running_of, with_track, heard_of, unheard_of};
 
 use types::{C32, CosSin, EqMode, EqualizeState, Mark, Update};
 
@@ -58,6 +58,62 @@ pub struct Aim {
     pub fed: C32,
 }
 
+// The running numbers of a record.
+impl From<EqualizeState> for Track {
+    ghost from_gives = { λ s t. t ≡ running_of s };
+
+    fn from(s: EqualizeState) -> Track {
+        Track {
+            mse: s.mse,
+            freq: s.freq,
+            phase: s.phase,
+        }
+    }
+}
+
+impl Track {
+    // The record s with these running numbers.
+    pub fn on(self, s: EqualizeState) -> EqualizeState
+        ensures { result ≡ with_track s self }
+    {
+        EqualizeState {
+            mse: self.mse,
+            phase: self.phase,
+            freq: self.freq,
+            ..s
+        }
+    }
+}
+
+// A sample whose steps 4 to 7 gave r is heard.
+impl From<Stepped> for Stage {
+    ghost from_gives = { λ r k. k ≡ heard_of r };
+
+    fn from(r: Stepped) -> Stage {
+        Stage {
+            track: r.track,
+            out: r.z,
+            fed: r.fed,
+            mark: Mark::Heard,
+        }
+    }
+}
+
+impl Stage {
+    // A sample that is not heard: zero is given and fed back, and no number moves.
+    pub fn unheard(s: EqualizeState, mark: Mark) -> Stage
+        ensures { result ≡ unheard_of s mark }
+    {
+        let zero = C32::ZERO;
+        Stage {
+            track: Track::from(s),
+            out: zero,
+            fed: zero,
+            mark,
+        }
+    }
+}
+
 // The mean error after an error e.
 fn mean(mse: f32, e: C32) -> f32
     ensures { result ≡ mse_after mse (norm e) }
@@ -94,18 +150,6 @@ fn tracked(s: EqualizeState, z: C32, d: C32, e: C32) -> Track
     moved(s.phase, mse, f, f + s.kp * 0.0)
 }
 
-// The record with the running numbers t.
-pub fn with_track(s: EqualizeState, t: Track) -> EqualizeState
-    ensures { result ≡ with_track s t }
-{
-    EqualizeState {
-        mse: t.mse,
-        phase: t.phase,
-        freq: t.freq,
-        ..s
-    }
-}
-
 // Godard's constant modulus error, clipped.
 fn modulus(y: C32, radius: f32) -> C32
     ensures { result ≡ clip_c (godard_error y radius) one32 }
@@ -121,12 +165,9 @@ fn modulus(y: C32, radius: f32) -> C32
 fn aim_of(s: EqualizeState, t: CosSin, y: C32, d: C32, e: C32) -> Aim
     ensures { result ≡ aimed s.mode s.params.constellation t y d e }
 {
-    let mode = s.mode;
-    let p = s.params;
-    let k = p.constellation;
-    match mode {
+    match s.mode {
         EqMode::Cma => Aim {
-            e: modulus(y, constellation::cma_r2(k)),
+            e: modulus(y, constellation::cma_r2(s.params.constellation)),
             fed: C32::ZERO,
         },
         EqMode::Decision => Aim {
@@ -157,14 +198,14 @@ fn fed_if(live: bool, fed: C32) -> C32
     C32::ZERO
 }
 
-// Steps 4 to 7 with c and s, by the sum y, the forward power and the step size m.
+// Steps 4 to 7 with c and s, by the sum y, the forward power and the step size m. It has two callers, and out of line a sample of a run takes 3 to 5 ns
+// longer.
+#[inline(always)]
 pub fn step(s: EqualizeState, t: CosSin, y: C32, forward: f32, m: f32) -> Stepped
     ensures { result ≡ step_with s t y forward m }
 {
-    let p = s.params;
-    let k = p.constellation;
     let z = costas::derotate(y, t);
-    let d = constellation::decide(k, z);
+    let d = constellation::decide(s.params.constellation, z);
     let e = C32 {
         re: z.re - d.re,
         im: z.im - d.im,
@@ -182,31 +223,21 @@ pub fn step(s: EqualizeState, t: CosSin, y: C32, forward: f32, m: f32) -> Steppe
     }
 }
 
-// Steps 4 to 7 by a borrowed table. These are the calls of `step` again: called from both paths, `step` would be compiled out of line, and a sample of
-// a run takes 3 to 5 ns longer then.
+// Steps 4 to 7 by a borrowed table.
 pub fn follow(s: EqualizeState, t: &[u32; 4097], y: C32, forward: f32, size: f32) -> Stepped
     requires { t.now ≡ cos_bits }
     ensures { result ≡ step_of s y forward size }
 {
-    let turn = mix::interp_f32_pair_in(t, s.phase);
-    let p = s.params;
-    let k = p.constellation;
-    let z = costas::derotate(y, turn);
-    let d = constellation::decide(k, z);
-    let e = C32 {
-        re: z.re - d.re,
-        im: z.im - d.im,
-    };
-    let a = aim_of(s, turn, y, d, e);
-    let sounds = forward != 0.0;
-    let update = update_of(sounds, a.e, size);
-    let fed = fed_if(sounds, a.fed);
-    let track = tracked(s, z, d, e);
-    Stepped {
-        track,
-        z,
-        fed,
-        update,
+    step(s, mix::interp_f32_pair_in(t, s.phase), y, forward, size)
+}
+
+// The step size of the mode, before the window power.
+fn mu_of(s: EqualizeState) -> f32
+    ensures { result ≡ mu_of s.mode s.params }
+{
+    match s.mode {
+        EqMode::Cma => s.params.mu_cma,
+        EqMode::Decision => s.params.mu_dd,
     }
 }
 
@@ -214,43 +245,5 @@ pub fn follow(s: EqualizeState, t: &[u32; 4097], y: C32, forward: f32, size: f32
 pub fn size_of(s: EqualizeState, power: f32) -> f32
     ensures { result ≡ step_size (mu_of s.mode s.params) power }
 {
-    let m = s.mode;
-    let p = s.params;
-    match m {
-        EqMode::Cma => p.mu_cma / (power + EqualizeState::NLMS_EPS),
-        EqMode::Decision => p.mu_dd / (power + EqualizeState::NLMS_EPS),
-    }
-}
-
-// A sample whose steps 4 to 7 gave r.
-pub fn heard(r: Stepped) -> Stage
-    ensures { result ≡ heard_of r }
-{
-    let track = r.track;
-    let out = r.z;
-    let fed = r.fed;
-    Stage {
-        track,
-        out,
-        fed,
-        mark: Mark::Heard,
-    }
-}
-
-// A sample that is not heard: zero is given and fed back, and no number moves.
-pub fn unheard(s: EqualizeState, mark: Mark) -> Stage
-    ensures { result ≡ unheard_of s mark }
-{
-    let track = Track {
-        mse: s.mse,
-        freq: s.freq,
-        phase: s.phase,
-    };
-    let zero = C32::ZERO;
-    Stage {
-        track,
-        out: zero,
-        fed: zero,
-        mark,
-    }
+    mu_of(s) / (power + EqualizeState::NLMS_EPS)
 }

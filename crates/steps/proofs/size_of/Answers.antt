@@ -1,9 +1,7 @@
 -- `size_of` divides the mode's mu by the window power.
-use Rattle.steps.proofs.Exits.{size-cma, size-decision}
+use Rattle.definition.specs.Sample.{step_size}
 use Rattle.steps.proofs.size_of.Goals as goal
 
-pub returns-in-Cma : goal.returns-in-Cma
-returns-in-Cma c = search size-cma
-
-pub returns-in-Decision : goal.returns-in-Decision
-returns-in-Decision c = search size-decision
+pub returns : goal.returns
+unfolding step_size
+returns c = rw c.mu_of.ensures
