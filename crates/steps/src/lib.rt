@@ -247,3 +247,22 @@ pub fn size_of(s: EqualizeState, power: f32) -> f32
 {
     mu_of(s) / (power + EqualizeState::NLMS_EPS)
 }
+
+// The same three, as the runs call them.
+pub fn heard(r: Stepped) -> Stage
+    ensures { result ≡ heard_of r }
+{
+    Stage::from(r)
+}
+
+pub fn unheard(s: EqualizeState, mark: Mark) -> Stage
+    ensures { result ≡ unheard_of s mark }
+{
+    Stage::unheard(s, mark)
+}
+
+pub fn with_track(s: EqualizeState, t: Track) -> EqualizeState
+    ensures { result ≡ with_track s t }
+{
+    t.on(s)
+}
