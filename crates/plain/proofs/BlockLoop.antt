@@ -1,6 +1,6 @@
 -- The loop over the samples of a block. Assumes nothing.
 use Prim.Native.Nat.{ℕ, ◌+◌, ◌*◌, ◌≤◌, ◌<◌}
-use mathlib.Core.Path.{◌≡◌, refl, ◌∙◌}
+use mathlib.Core.Path.{◌≡◌}
 use mathlib.Core.List.{List}
 use native.Mathlib.Omega.{arith}
 use lib.ListN.{length, get_or, set, length-set}
@@ -16,38 +16,29 @@ use Rattle.definition_laws.proofs.Progress.{Progress, progress_none, progress-mo
 use Rattle.steps.specs.declared.Sampled.{Sampled}
 use Rattle.steps.specs.Step.{did}
 
--- how far the loop has come: the lengths, the place, and the block's progress
-pub record Turns (q₀ : Equalizer) (xs ys₀ : List Float) (ms₀ : List ℕ) (q : Equalizer) (ys : List Float) (ms : List ℕ) (i k : ℕ) : Type 0 where
+-- how far the loop has come: the lengths, and the block's progress
+pub record Turns (q₀ : Equalizer) (xs : List Float) (q : Equalizer) (ys : List Float) (ms : List ℕ) (i : ℕ) : Type 0 where
   pub shaped : ServedBlock q xs ys ms
-  pub long_ws : length q.weights ≡ length q₀.weights
-  pub long_w : length q.window ≡ length q₀.window
-  pub long_ys : length ys ≡ length ys₀
-  pub long_ms : length ms ≡ length ms₀
-  pub place : k ≡ 2 * i
   pub within : i ≤ length ms
-  pub done : Progress q₀ xs q ys ms i k
+  pub done : Progress q₀ xs q ys ms i (2 * i)
 
-pub turns_none : (q : Equalizer) (xs ys : List Float) (ms : List ℕ) → ServedBlock q xs ys ms → Turns q xs ys ms q ys ms 0 0
-turns_none q xs ys ms h = record { shaped = h; long_ws = refl; long_w = refl; long_ys = refl; long_ms = refl; place = refl; within = omega arith; done = progress_none q xs ys ms h.accepted }
+pub turns_none : (q : Equalizer) (xs ys : List Float) (ms : List ℕ) → ServedBlock q xs ys ms → Turns q xs q ys ms 0
+turns_none q xs ys ms h = record { shaped = h; within = omega arith; done = progress_none q xs ys ms h.accepted }
 
-module _ (q₀ : Equalizer) (xs ys₀ : List Float) (ms₀ : List ℕ) (q : Equalizer) (ys : List Float) (ms : List ℕ) (i k : ℕ) (g : Turns q₀ xs ys₀ ms₀ q ys ms i k) where
-  pub turns_more : (x : C32) (r : Sampled) (b : ℕ) (ws w : List Float) → i < length ms → x.re ≡ get_or xs k nan → x.im ≡ get_or xs (k + 1) nan → did r ws w ≡ sample_def q x
-      → b ≡ mark_number r.mark → length ws ≡ length q.weights → length w ≡ length q.window
-      → Turns q₀ xs ys₀ ms₀ (equalizer r.state ws w) (set (set ys k r.out.re) (k + 1) r.out.im) (set ms i b) (i + 1) (k + 2)
-  turns_more x r b ws w h xr xi d m lws lw =
+module _ (q₀ : Equalizer) (xs : List Float) (q : Equalizer) (ys : List Float) (ms : List ℕ) (i : ℕ) (g : Turns q₀ xs q ys ms i) where
+  pub turns_more : (x : C32) (r : Sampled) (b : ℕ) (ws w : List Float) → i < length ms → x.re ≡ get_or xs (2 * i) nan → x.im ≡ get_or xs (2 * i + 1) nan → did r ws w ≡ sample_def q x
+      → b ≡ mark_number r.mark
+      → Turns q₀ xs (equalizer r.state ws w) (set (set ys (2 * i) r.out.re) (2 * i + 1) r.out.im) (set ms i b) (i + 1)
+  turns_more x r b ws w h xr xi d m =
       let s = g.shaped in
-      let X : x ≡ complex (get_or xs k nan) (get_or xs (k + 1) nan) = λ j. record { re = xr j; im = xi j } in
-      let p = progress-more q₀ xs q ys ms i k g.done x (did r ws w) b h (omega arith) (omega arith) X d m in
+      let k : 2 * (i + 1) ≡ 2 * i + 2 = omega arith in
+      let X : x ≡ complex (get_or xs (2 * i) nan) (get_or xs (2 * i + 1) nan) = λ j. record { re = xr j; im = xi j } in
+      let p = progress-more q₀ xs q ys ms i (2 * i) g.done x (did r ws w) b h (omega arith) (omega arith) X d m in
       record {
         shaped = record { accepted = p.accepted; input = simp length-set s.input; output = simp length-set s.output };
-        long_ws = lws ∙ g.long_ws;
-        long_w = lw ∙ g.long_w;
-        long_ys = simp length-set g.long_ys;
-        long_ms = simp length-set g.long_ms;
-        place = omega arith;
         within = simp length-set (omega arith);
-        done = p;
+        done = rw k p;
       }
 
   pub turns-all : length ms ≤ i → Ran (run_def q₀ (samples_of xs)) q ys ms
-  turns-all h = progress-all q₀ xs q ys ms i k g.done h (omega arith) (omega arith)
+  turns-all h = progress-all q₀ xs q ys ms i (2 * i) g.done h (omega arith) (omega arith)

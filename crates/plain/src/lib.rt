@@ -35,9 +35,8 @@ fn hear(s: EqualizeState, w: &mut [f32], h: &[f32], y: C32, n: usize, f: usize) 
     let power = slices::window_power(h, f, forward, n);
     let size = steps::size_of(s, power);
     let r = steps::step(s, turn, y, forward, size);
-    let u = r.update;
-    slices::update_weights(u, w, h, n, f);
-    steps::heard(r)
+    slices::update_weights(r.update, w, h, n, f);
+    Stage::from(r)
 }
 
 // Steps 2 to 7, over the shifted window.
@@ -46,11 +45,11 @@ fn take(s: EqualizeState, w: &mut [f32], h: &[f32], x: C32, n: usize, f: usize) 
     ensures { stage s result w.new ≡ step3 s w.old n f x h.now (step2 n w.old h.now) }
 {
     if !numeric::finite_c(x) {
-        return steps::unheard(s, Mark::Blank);
+        return Stage::unheard(s, Mark::Blank);
     }
     let y = dot::dot_complex_c32(h, w);
     if !numeric::finite_c(y) {
-        return steps::unheard(s, Mark::Spilled);
+        return Stage::unheard(s, Mark::Spilled);
     }
     hear(s, w, h, y, n, f)
 }
@@ -79,15 +78,12 @@ fn sample_sized(
 {
     slices::shift(h, f, sanitize(x));
     let r = take(s, w, h, x, n, f);
-    let p = s.params;
-    let m = p.feedback_taps;
-    let fed = r.fed;
-    feed(h, f, m, fed);
-    let track = r.track;
-    let out = r.out;
-    let mark = r.mark;
-    let state = record_mode::advance(steps::with_track(s, track));
-    Sampled { state, out, mark }
+    feed(h, f, s.params.feedback_taps, r.fed);
+    Sampled {
+        state: record_mode::advance(r.track.on(s)),
+        out: r.out,
+        mark: r.mark,
+    }
 }
 
 // One sample of an accepted record.
@@ -96,8 +92,7 @@ fn sample(s: EqualizeState, w: &mut [f32], h: &mut [f32], x: C32) -> Sampled
     ensures { did result w.new h.new ≡ sample_def (equalizer s w.old h.old) x }
 {
     let n = w.len() / 2;
-    let p = s.params;
-    let f = n - p.feedback_taps;
+    let f = n - s.params.feedback_taps;
     sample_sized(s, w, h, x, n, f)
 }
 
@@ -115,23 +110,12 @@ pub fn block(
         (equalizer result weights.new window.new) output.new marks.new }
 {
     let mut s = state;
-    let mut i = 0usize;
-    let mut k = 0usize;
-    while i < marks.len() {
-        let x = C32 {
-            re: input[k],
-            im: input[k + 1],
-        };
+    for i in 0..marks.len() {
+        let x = slices::at(input, i);
         let r = sample(s, weights, window, x);
-        let out = r.out;
-        output[k] = out.re;
-        output[k + 1] = out.im;
-        let mark = r.mark;
-        marks[i] = u8::from(mark);
-        let next = r.state;
-        s = next;
-        i += 1;
-        k += 2;
+        slices::put(output, i, r.out);
+        marks[i] = u8::from(r.mark);
+        s = r.state;
     }
     s
 }

@@ -1,5 +1,5 @@
 // Loops over the weights and the window: complex number i has its real part at 2 i and its imaginary part at 2 i + 1.
-ghost use Rattle.std.specs.Prelude.{◌≡◌, ◌+◌, ◌*◌, ◌<◌, ◌≤◌, length};
+ghost use Rattle.std.specs.Prelude.{◌≡◌, ◌+◌, ◌*◌, ◌<◌, ◌≤◌, length, slice_set};
 ghost use Rattle.definition.specs.Floats.{◌+f◌, ◌-f◌, ◌*f◌, flush, norm as normDef};
 ghost use Rattle.definition.specs.Slices.{re_at, im_at, shifted, power as powerDef, updated};
 ghost use Rattle.definition.specs.Sample.{adapted};
@@ -7,7 +7,7 @@ ghost use Rattle.definition.specs.Sample.{adapted};
 use types::{C32, Update};
 
 // Complex number i.
-fn at(x: &[f32], i: usize) -> C32
+pub(crate) fn at(x: &[f32], i: usize) -> C32
     requires { 2 * i + 1 < length x.now }
     ensures { (result.re ≡ re_at x.now i) × (result.im ≡ im_at x.now i) }
 {
@@ -16,6 +16,16 @@ fn at(x: &[f32], i: usize) -> C32
         re: x[j],
         im: x[j + 1],
     }
+}
+
+// Complex number i set to v.
+pub(crate) fn put(x: &mut [f32], i: usize, v: C32)
+    requires { 2 * i + 1 < length x.old }
+    ensures { x.new ≡ slice_set (slice_set x.old (2 * i) v.re) (2 * i + 1) v.im }
+{
+    let j = 2 * i;
+    x[j] = v.re;
+    x[j + 1] = v.im;
 }
 
 // |v|^2
@@ -30,18 +40,11 @@ pub(crate) fn shift(x: &mut [f32], n: usize, v: C32)
     requires { 2 * n ≤ length x.old }
     ensures { x.new ≡ shifted n v x.old }
 {
-    let mut a = v.re;
-    let mut b = v.im;
-    let mut i = 0usize;
-    while i < n {
-        let j = 2 * i;
-        let c = x[j];
-        let d = x[j + 1];
-        x[j] = a;
-        x[j + 1] = b;
-        a = c;
-        b = d;
-        i += 1;
+    let mut next = v;
+    for i in 0..n {
+        let old = at(x, i);
+        put(x, i, next);
+        next = old;
     }
 }
 
@@ -51,11 +54,8 @@ pub(crate) fn window_power(x: &[f32], from: usize, first: f32, n: usize) -> f32
     ensures { result ≡ powerDef x.now n }
 {
     let mut sum = first;
-    let mut i = from;
-    while i < n {
-        let a = at(x, i);
-        sum = sum + norm(a);
-        i += 1;
+    for i in from..n {
+        sum = sum + norm(at(x, i));
     }
     sum
 }
@@ -75,17 +75,8 @@ fn renew(w: &mut [f32], x: &[f32], g: C32, n: usize)
     requires { (2 * n ≤ length w.old) × (2 * n ≤ length x.now) }
     ensures { w.new ≡ updated n g w.old x.now }
 {
-    let mut i = 0usize;
-    while i < n {
-        let j = 2 * i;
-        let old = C32 {
-            re: w[j],
-            im: w[j + 1],
-        };
-        let new = update_weight(old, g, at(x, i));
-        w[j] = new.re;
-        w[j + 1] = new.im;
-        i += 1;
+    for i in 0..n {
+        put(w, i, update_weight(at(w, i), g, at(x, i)));
     }
 }
 

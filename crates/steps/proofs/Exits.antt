@@ -11,11 +11,11 @@ use Rattle.types.specs.declared.EqualizeState.{EqualizeState}
 use Rattle.types.specs.declared.Update.{Update}
 use Rattle.types.specs.declared.Update.TheVariants.{Step, Hold}
 use Rattle.types.specs.Bits.{zero32, one32}
-use Rattle.definition.specs.Floats.{◌+f◌, ◌-f◌, ◌*f◌, ◌/f◌, nlms_eps, mse_alpha, max_freq, flush, clip, zero_c, norm, complex, finite_c, minus_c, clip_c, scaled_c}
+use Rattle.definition.specs.Floats.{◌+f◌, ◌-f◌, ◌*f◌, mse_alpha, max_freq, flush, clip, zero_c, norm, complex, finite_c, minus_c, clip_c, scaled_c}
 use Rattle.definition.specs.Phase.{phase_step}
 use Rattle.definition.specs.Points.{decide, radius}
 use Rattle.definition.specs.Turns.{derotated, rotated}
-use Rattle.definition.specs.Sample.{mu_of, step_size, mse_after, godard_error, error_of, fed_of, live, phase_error, freq_after, phase_after}
+use Rattle.definition.specs.Sample.{mse_after, godard_error, error_of, fed_of, live, phase_error, freq_after, phase_after}
 use Rattle.steps.specs.declared.Aim.{Aim}
 use Rattle.steps.specs.declared.Track.{Track}
 use Rattle.steps.specs.declared.Stepped.{Stepped}

@@ -10,4 +10,4 @@ window_power-forward-requires c = search rules
 
 pub returns : goal.returns
 returns c =
-    heard-by _ _ _ _ _ _ _ _ _ _ _ _ _ c.window_power-forward.ensures c.window_power-power.ensures c.size_of-size.ensures c.interp_f32_pair-turn.ensures.value_2 c.step-r.ensures c.update_weights.ensures c.heard.ensures
+    heard-by _ _ _ _ _ _ _ _ _ _ _ _ _ c.window_power-forward.ensures c.window_power-power.ensures c.size_of-size.ensures c.interp_f32_pair-turn.ensures.value_2 c.step-r.ensures c.update_weights.ensures c.from.ensures
