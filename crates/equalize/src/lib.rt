@@ -14,86 +14,46 @@ ghost use Rattle.definition.specs.Paths.{by_taps, Promised};
 // The least block that goes in runs, without feedback taps; a shorter one goes sample by sample. A matter of speed alone, since both ways give the same:
 // a run has a start to pay, which takes the more samples to earn back the fewer the taps are (docs/PERFORMANCE.md).
 fn quick_from(taps: usize) -> usize {
-    if taps < 5 {
-        return 56;
+    match taps {
+        0..=4 => 56,
+        5..=6 => 40,
+        7..=8 => 24,
+        9..=10 => 32,
+        11..=12 => 24,
+        13..=20 => 20,
+        21..=30 => 16,
+        31..=62 => 12,
+        _ => 8,
     }
-    if taps < 7 {
-        return 40;
-    }
-    if taps < 9 {
-        return 24;
-    }
-    if taps < 11 {
-        return 32;
-    }
-    if taps < 13 {
-        return 24;
-    }
-    if taps < 21 {
-        return 20;
-    }
-    if taps < 31 {
-        return 16;
-    }
-    if taps < 63 {
-        return 12;
-    }
-    8
 }
 
 // The same with feedback taps, by all taps: they have arrays of their own in a run, where the plain path sums over both at once.
 fn joint_from(taps: usize) -> usize {
-    if taps < 6 {
-        return 512;
+    match taps {
+        0..=5 => 512,
+        6 => 96,
+        7 => 64,
+        8..=9 => 160,
+        10 => 72,
+        11 => 48,
+        12..=13 => 32,
+        14..=15 => 28,
+        16..=18 => 32,
+        19..=20 => 24,
+        21..=26 => 20,
+        27..=36 => 16,
+        37..=52 => 12,
+        _ => 8,
     }
-    if taps < 7 {
-        return 96;
-    }
-    if taps < 8 {
-        return 64;
-    }
-    if taps < 10 {
-        return 160;
-    }
-    if taps < 11 {
-        return 72;
-    }
-    if taps < 12 {
-        return 48;
-    }
-    if taps < 14 {
-        return 32;
-    }
-    if taps < 16 {
-        return 28;
-    }
-    if taps < 19 {
-        return 32;
-    }
-    if taps < 21 {
-        return 24;
-    }
-    if taps < 27 {
-        return 20;
-    }
-    if taps < 37 {
-        return 16;
-    }
-    if taps < 53 {
-        return 12;
-    }
-    8
 }
 
 // Whether a block of `len` samples goes in runs. With 3 + 1 taps none does: the plain path is faster at any length.
 fn by_runs(taps: usize, feedback: usize, len: usize) -> bool {
-    if len < 8 {
-        return false;
+    match feedback {
+        _ if len < 8 => false,
+        0 => len >= quick_from(taps),
+        _ => (taps != 4) & (len >= joint_from(taps)),
     }
-    if feedback == 0 {
-        return len >= quick_from(taps);
-    }
-    (taps != 4) & (len >= joint_from(taps))
 }
 
 // The samples of an accepted call: the linear path without feedback taps, the joint path with them, both in runs of 64, or the plain path.
