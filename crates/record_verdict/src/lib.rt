@@ -24,6 +24,7 @@ pub fn all_even(lw: usize, lh: usize, xs: usize, ys: usize) -> bool
 }
 
 // Tests 5 to 7: the settings.
+#[tactic(auto, unfolding(definition::specs::Refusals::first_of))]
 fn settings_verdict(p: EqParams) -> Result<(), Error>
     ensures { result ≡ first_of (setting_tests p) }
 {
@@ -40,6 +41,7 @@ fn settings_verdict(p: EqParams) -> Result<(), Error>
 }
 
 // Tests 2 to 7: the taps, then the settings.
+#[tactic(auto, unfolding(definition::specs::Refusals::first_of))]
 fn taps_verdict(p: EqParams, lw: usize, lh: usize) -> Result<(), Error>
     ensures { result ≡ first_of (tap_tests p lw lh ++ setting_tests p) }
 {
@@ -59,6 +61,7 @@ fn taps_verdict(p: EqParams, lw: usize, lh: usize) -> Result<(), Error>
 }
 
 // Tests 1 to 7 of new, by the lengths of weights and window.
+#[tactic(auto, unfolding(definition::specs::Refusals::first_of, definition::specs::Calls::new_verdict, definition::specs::Calls::new_tests))]
 pub fn new_verdict(p: EqParams, lw: usize, lh: usize) -> Result<(), Error>
     ensures { result ≡ new_verdict p lw lh }
 {
@@ -69,6 +72,7 @@ pub fn new_verdict(p: EqParams, lw: usize, lh: usize) -> Result<(), Error>
 }
 
 // Tests 1 and 8 of reset.
+#[tactic(auto, unfolding(definition::specs::Refusals::first_of, definition::specs::Calls::reset_verdict))]
 pub fn reset_verdict(s: EqualizeState, w: &[f32], h: &[f32]) -> Result<(), Error>
     ensures { result ≡ reset_verdict (equalizer s w.now h.now) }
 {
@@ -82,7 +86,15 @@ pub fn reset_verdict(s: EqualizeState, w: &[f32], h: &[f32]) -> Result<(), Error
 }
 
 // Tests 1, 8, 9 and 10 of equalizing, by the lengths of input, output and marks.
-pub fn verdict(s: EqualizeState, w: &[f32], h: &[f32], xs: usize, ys: usize, ms: usize) -> Result<(), Error>
+#[tactic(auto, unfolding(definition::specs::Refusals::first_of, definition::specs::Calls::verdict_def, definition::specs::Calls::equalize_tests))]
+pub fn verdict(
+    s: EqualizeState,
+    w: &[f32],
+    h: &[f32],
+    xs: usize,
+    ys: usize,
+    ms: usize,
+) -> Result<(), Error>
     ensures { result ≡ verdict_def (rulesDef (equalizer s w.now h.now))
         (record { weights = length w.now; window = length h.now; input = xs; output = ys; marks = ms }) }
 {
