@@ -1,3 +1,2 @@
--- Laws of `new` and `reset`, and of the setters.
+-- Laws of `new` and `reset`.
 pub mod Starts
-pub mod Settings

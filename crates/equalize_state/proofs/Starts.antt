@@ -8,7 +8,6 @@ use lib.ListN.{length}
 use lib.Dec.{T, eqb, leb, leb→le}
 use borrow.Author.Tests.{eqb-true}
 use lib.Ieee.{Float}
-use Rattle.types.specs.declared.LoopGains.{LoopGains}
 use Rattle.types.specs.declared.EqParams.{EqParams}
 use Rattle.types.specs.declared.EqualizeState.{EqualizeState}
 use Rattle.types.specs.declared.Equalized.{Equalized}
@@ -19,16 +18,11 @@ use Rattle.types.specs.declared.Error.TheVariants.{Odd, Feedback, Taps, Record}
 use Rattle.types.specs.Start.{start_state}
 use Rattle.definition.specs.Slices.{zeros, start_weights}
 use Rattle.definition.specs.Packed.{equalizer, made, reset_to}
-use Rattle.definition.specs.Gains.{phase_damping, loop_gains}
 use Rattle.definition.specs.Rules.{feedback_fits, taps_fit, rule_r1, rule_r2}
 use Rattle.definition.specs.Calls.{even, new_tests, new_verdict, start_over, fresh_state, new_def, reset_verdict, reset_def}
 use Rattle.definition_laws.proofs.Verdicts.{both, fine}
 
 -- ---- new
-
-pub fresh_is : (p : EqParams) (g : LoopGains) (t : EqualizeState) → g ≡ loop_gains p.phase_bw phase_damping → t ≡ start_state p g.kp g.ki → t ≡ fresh_state p
-unfolding fresh_state loop_gains
-fresh_is p g t e d = rw (d, e)
 
 -- an odd number from 3 to 63 is at least 1
 pub fits_some : (n : ℕ) → taps_fit n ≡ true → 3 ≤ n

@@ -19,6 +19,7 @@ fn start_over(w: &mut [f32], h: &mut [f32], n: usize, f: usize)
 }
 
 // The record at the start, with the gains of its bandwidth.
+#[tactic(auto, unfolding(definition::specs::Calls::fresh_state, definition::specs::Gains::loop_gains))]
 fn fresh_state(params: EqParams) -> EqualizeState
     ensures { result ≡ fresh_state params }
 {
@@ -64,9 +65,11 @@ pub fn set_mu_cma(state: EqualizeState, mu: f32) -> Equalized
     if !record_rules::check_mu(mu) {
         return Equalized::refused(state, Error::MuCma);
     }
-    let mut next = state;
-    next.params.mu_cma = mu;
-    Equalized::served(next)
+    let params = EqParams {
+        mu_cma: mu,
+        ..state.params
+    };
+    Equalized::served(EqualizeState { params, ..state })
 }
 
 // Another step size for Decision; else refusal 6.
@@ -77,20 +80,22 @@ pub fn set_mu_dd(state: EqualizeState, mu: f32) -> Equalized
     if !record_rules::check_mu(mu) {
         return Equalized::refused(state, Error::MuDd);
     }
-    let mut next = state;
-    next.params.mu_dd = mu;
-    Equalized::served(next)
+    let params = EqParams {
+        mu_dd: mu,
+        ..state.params
+    };
+    Equalized::served(EqualizeState { params, ..state })
 }
 
 // The tracker's frequency from outside: flushed, held to its limit, and 0 for a NaN. Never refused.
+#[tactic(auto, unfolding(definition::specs::Calls::set_frequency_def, definition::specs::Calls::held_freq))]
 pub fn set_frequency(state: EqualizeState, freq: f32) -> EqualizeState
     ensures { result ≡ set_frequency_def state freq }
 {
-    let mut next = state;
-    if freq != freq {
-        next.freq = 0.0;
-        return next;
-    }
-    next.freq = costas::integrate(freq, EqualizeState::PHASE_MAX_FREQ);
-    next
+    let freq = if freq.is_nan() {
+        0.0
+    } else {
+        costas::integrate(freq, EqualizeState::PHASE_MAX_FREQ)
+    };
+    EqualizeState { freq, ..state }
 }
