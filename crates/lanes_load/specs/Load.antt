@@ -1,12 +1,8 @@
 -- The caller's slices and the split arrays.
-use Rattle.std.specs.Prelude.{ℕ, ◌+◌, ◌-◌, ◌*◌, ◌<◌, ◌≤◌, ◌≡◌, false, cond, List, length, get_or, ltb, Float}
-use Rattle.std.specs.Float.{nan, inf}
-use Rattle.definition.specs.Floats.{tiny}
+use Rattle.std.specs.Prelude.{ℕ, ◌+◌, ◌-◌, ◌*◌, ◌<◌, ◌≤◌, ◌≡◌, List, length, get_or, Float}
+use Rattle.std.specs.Float.{nan}
 use Rattle.definition.specs.Slices.{re_at, im_at}
 use Rattle.lanes.specs.Between.{Between}
-
-unfoldable pub limit_at : ℕ → ℕ → ℕ → ℕ → Float
-limit_at n from to i = cond (ltb i n) tiny (cond (ltb i from) (inf false) (cond (ltb i to) tiny (inf false)))
 
 -- count numbers of x, from `from` on, are those of the lanes from `at` on; the others are as they were
 pub record Joined (re im : List Float) (at from count : ℕ) (old x : List Float) : Type 0 where

@@ -2,7 +2,7 @@
 #![tactic(auto)]
 
 ghost use Rattle.std.specs.Prelude.{◌≡◌, ◌+◌, ◌*◌, ◌≤◌, length};
-ghost use Rattle.lanes_load.specs.Load.{limit_at, Joined, Loaded, Moved};
+ghost use Rattle.lanes_load.specs.Load.{Joined, Loaded, Moved};
 ghost use Rattle.lanes.specs.Holds.{Limits};
 
 // count complex values of x, from `from` on, into the lanes from `at` on.
@@ -39,27 +39,14 @@ pub fn moved(x: &mut [f32; 288], from: usize, to: usize, count: usize)
     }
 }
 
-// TINY for a weight's lane, infinity for padding: weights before n, and from `from` to `to`.
-fn limit_of(i: usize, n: usize, from: usize, to: usize) -> f32
-    ensures { result ≡ limit_at n from to i }
-{
-    if i < n {
-        return numeric::TINY;
-    }
-    if i < from {
-        return 1.0 / 0.0;
-    }
-    if i < to { numeric::TINY } else { 1.0 / 0.0 }
-}
-
-// The limits of the lanes: n forward, from 0 on, and m feedback, from 72 + front on.
+// The limits of the lanes: TINY for n forward weights, from 0 on, and m feedback weights, from 72 + front on, infinity for padding.
 pub fn limits(n: usize, front: usize, m: usize) -> [f32; 144]
     requires { (n ≤ 72) × (front + m ≤ 72) }
     ensures { Limits result 0 0 n × Limits result 72 front m }
 {
-    let mut limit = [0.0f32; 144];
-    for i in 0..144 {
-        limit[i] = limit_of(i, n, 72 + front, 72 + front + m);
-    }
+    let back = 72 + front;
+    let mut limit = [f32::INFINITY; 144];
+    limit[..n].fill(numeric::TINY);
+    limit[back..back + m].fill(numeric::TINY);
     limit
 }
