@@ -1,17 +1,28 @@
--- The loop of `chain`. Assumes nothing.
-use Prim.Native.Nat.{ℕ, ◌+◌}
-use mathlib.Core.Path.{◌≡◌, refl}
-use mathlib.Core.List.{List}
-use native.Mathlib.Numerals.{add-one}
-use lib.ListN.{get_or}
+-- The chain of the power as a fold over a part of the squares. Assumes nothing.
+use Prim.Native.Nat.{ℕ, zero, suc, ◌+◌, ◌-◌, ◌≤◌, ◌<◌}
+use mathlib.Core.Path.{◌≡◌, refl, ◌∙◌, ap}
+use mathlib.Core.List.{List, [], ◌∷◌}
+use native.Mathlib.Omega.{arith}
+use lib.ListN.{length, get_or, take, drop, length-drop}
+use lib.Seq.{take-suc, get_or-drop}
 use lib.Ieee.{Float, nan}
+use Rattle.std.specs.List.{fold, slice_range}
+use Rattle.std.proofs.lemmas.List.Sums.{fold-append}
 use Rattle.definition.specs.Floats.{◌+f◌}
 use Rattle.lanes.specs.Powers.{chain_from}
 
-pub chain_none : (s : Float) (q : List Float) (from : ℕ) → s ≡ chain_from s q from 0
+-- n squares from `from` on, added to s in order
+chain_fold : (s : Float) (q : List Float) (from n : ℕ) → from + n ≤ length q → fold (λ p v. p +f v) s (take n (drop from q)) ≡ chain_from s q from n
 unfolding chain_from
-chain_none s q from = refl
+chain_fold s q from zero h = refl
+chain_fold s q from (suc n) h =
+    let l : n < length (drop from q) = simp length-drop (omega arith) in
+    ap (fold (λ p v. p +f v) s) (take-suc (drop from q) n nan l)
+    ∙ fold-append (λ p v. p +f v) s (take n (drop from q)) (get_or (drop from q) n nan ∷ [])
+    ∙ rw (chain_fold s q from n (omega arith), get_or-drop from q n nan)
 
-pub chain_more : (s : Float) (q : List Float) (from n : ℕ) (p : Float) → p ≡ chain_from s q from n → p +f get_or q (from + n) nan ≡ chain_from s q from (n + 1)
-unfolding chain_from
-chain_more s q from n p e = rw (add-one, e)
+-- the same of the part that the code lends
+pub chained : (s : Float) (q : List Float) (from n : ℕ) {p : Float} → from + n ≤ length q → p ≡ fold (λ p v. p +f v) s (slice_range q from (from + n)) → p ≡ chain_from s q from n
+chained s q from n h e =
+    let k : from + n - from ≡ n = omega arith in
+    e ∙ rw k (chain_fold s q from n h)

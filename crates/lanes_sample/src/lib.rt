@@ -2,9 +2,9 @@
 #![tactic(auto)]
 
 ghost use Rattle.std.specs.Prelude.{◌≡◌, ◌+◌, ◌<◌, ◌≤◌, set};
-ghost use Rattle.definition.specs.Floats.{norm};
+ghost use Rattle.std.specs.List.{fold, slice_range};
+ghost use Rattle.definition.specs.Floats.{norm, ◌+f◌};
 ghost use Rattle.lanes.specs.Arrays.{arrays_of};
-ghost use Rattle.lanes.specs.Powers.{chain_from};
 ghost use Rattle.lanes_sample.specs.Measures.{Measures};
 
 use dot::{Im, Re};
@@ -22,13 +22,9 @@ pub struct Measured {
 // forward, then q[from], q[from + 1] .. added in order.
 fn chain(q: &[f32; 288], from: usize, count: usize, forward: f32) -> f32
     requires { from + count ≤ 288 }
-    ensures { result ≡ chain_from forward q.now from count }
+    ensures { result ≡ fold (λ p v. p +f v) forward (slice_range q.now from (from + count)) }
 {
-    let mut p = forward;
-    for i in 0..count {
-        p = p + q[from + i];
-    }
-    p
+    q[from..from + count].iter().fold(forward, |p, v| p + *v)
 }
 
 // The sum and the power of the window at `at`: the power's chain in two parts, each beside a sum.
