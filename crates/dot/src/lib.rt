@@ -46,58 +46,65 @@ pub fn dot_complex_tree(a: &[f32; 8]) -> f32
     ((a[0] + a[4]) + (a[2] + a[6])) + ((a[1] + a[5]) + (a[3] + a[7]))
 }
 
+// The first n numbers of two slices.
+#[derive(Clone, Copy)]
+struct Taps<'a> {
+    x: &'a [f32],
+    w: &'a [f32],
+    n: usize,
+    ghost within: { (2 * n ≤ length x.now) × (2 * n ≤ length w.now) },
+}
+
 // The part of x[i] w[i].
-fn product_at<P: Part>(x: &[f32], w: &[f32], i: usize) -> f32
-    requires { (2 * i + 1 < length x.now) × (2 * i + 1 < length w.now) }
-    ensures { result ≡ product_at P.product x.now w.now i }
+fn product_at<P: Part>(t: Taps, i: usize) -> f32
+    requires { i < t.n }
+    ensures { result ≡ product_at P.product t.entry.x.now t.entry.w.now i }
 {
     let j = 2 * i;
-    P::product(x[j], x[j + 1], w[j], w[j + 1])
+    P::product(t.x[j], t.x[j + 1], t.w[j], t.w[j + 1])
 }
 
 // Adds the products i .. i + 7 to the partial sums.
-fn block<P: Part>(a: &mut [f32; 8], x: &[f32], w: &[f32], i: usize)
-    requires { (2 * (i + 8) ≤ length x.now) × (2 * (i + 8) ≤ length w.now) }
-    ensures { Added (product_at P.product x.now w.now) i 8 a.old a.new }
+fn block<P: Part>(a: &mut [f32; 8], t: Taps, i: usize)
+    requires { i + 8 ≤ t.n }
+    ensures { Added (product_at P.product t.entry.x.now t.entry.w.now) i 8 a.old a.new }
 {
-    for k in 0..8 {
-        a[k] = a[k] + product_at::<P>(x, w, i + k);
+    for (k, s) in a.iter_mut().enumerate() {
+        *s += product_at::<P>(t, i + k);
     }
 }
 
 // Adds the products i .. i + m - 1, at most eight, in eight turns with a test in each, which unrolls: the partial sums stay in registers.
-fn rest<P: Part>(a: &mut [f32; 8], x: &[f32], w: &[f32], i: usize, m: usize)
-    requires { (m ≤ 8) × ((2 * (i + m) ≤ length x.now) × (2 * (i + m) ≤ length w.now)) }
-    ensures { Added (product_at P.product x.now w.now) i m a.old a.new }
+fn rest<P: Part>(a: &mut [f32; 8], t: Taps, i: usize, m: usize)
+    requires { (m ≤ 8) × (i + m ≤ t.n) }
+    ensures { Added (product_at P.product t.entry.x.now t.entry.w.now) i m a.old a.new }
 {
-    for k in 0..8 {
+    for (k, s) in a.iter_mut().enumerate() {
         if k < m {
-            a[k] = a[k] + product_at::<P>(x, w, i + k);
+            *s += product_at::<P>(t, i + k);
         }
     }
 }
 
-// The part of the sum over the first n numbers, by blocks of eight.
-fn sum<P: Part>(x: &[f32], w: &[f32], n: usize) -> f32
-    requires { (2 * n ≤ length x.now) × (2 * n ≤ length w.now) }
-    ensures { result ≡ sum8 (product_at P.product x.now w.now) n }
+// The part of the sum, by blocks of eight.
+fn sum<P: Part>(t: Taps) -> f32
+    ensures { result ≡ sum8 (product_at P.product t.entry.x.now t.entry.w.now) t.entry.n }
 {
     let mut a = [0.0f32; 8];
-    for b in 0..n / 8 {
-        block::<P>(&mut a, x, w, 8 * b);
+    for b in 0..t.n / 8 {
+        block::<P>(&mut a, t, 8 * b);
     }
-    rest::<P>(&mut a, x, w, 8 * (n / 8), n % 8);
+    rest::<P>(&mut a, t, 8 * (t.n / 8), t.n % 8);
     dot_complex_tree(&a)
 }
 
-// The sum over the first n numbers. One pass for each component compiles to wider vectors.
-fn filter_sum(x: &[f32], w: &[f32], n: usize) -> C32
-    requires { (2 * n ≤ length x.now) × (2 * n ≤ length w.now) }
-    ensures { result ≡ filter_sum n x.now w.now }
+// The sum. One pass for each component compiles to wider vectors.
+fn filter_sum(t: Taps) -> C32
+    ensures { result ≡ filter_sum t.entry.n t.entry.x.now t.entry.w.now }
 {
     C32 {
-        re: sum::<Re>(x, w, n),
-        im: sum::<Im>(x, w, n),
+        re: sum::<Re>(t),
+        im: sum::<Im>(t),
     }
 }
 
@@ -106,5 +113,5 @@ pub fn dot_complex_c32(x: &[f32], w: &[f32]) -> C32
     ensures { result ≡ dot_complex x.now w.now }
 {
     let n = (x.len() / 2).min(w.len() / 2);
-    filter_sum(x, w, n)
+    filter_sum(Taps { x, w, n })
 }

@@ -32,8 +32,8 @@ fn add_block<P: Part>(acc: &mut [f32; 8], h: &Window, w: &Weights, p: Half, i: u
     requires { i + 8 ≤ p.lanes }
     ensures { Added (split_at P.product h.now.re h.now.im w.now.re w.now.im p.at p.from) i 8 acc.old acc.new }
 {
-    for k in 0..8 {
-        acc[k] = acc[k] + product_at::<P>(h, w, p, i + k);
+    for (k, s) in acc.iter_mut().enumerate() {
+        *s += product_at::<P>(h, w, p, i + k);
     }
 }
 

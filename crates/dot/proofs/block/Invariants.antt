@@ -4,4 +4,4 @@ use Rattle.dot.specs.Added.{Added}
 use Rattle.dot.proofs.block.Given as goal
 
 abbrev pub invariant-loop-k : goal.invariant-loop-k
-invariant-loop-k g l = Added (product_at g.P.Part.product l.x l.w) l.i l.k l.initial.a l.a
+invariant-loop-k g l = Added (product_at g.P.Part.product l.t.x.now l.t.w.now) l.i l.k l.initial.a l.a

@@ -5,4 +5,4 @@ use Rattle.dot.specs.Added.{Added}
 use Rattle.dot.proofs.rest.Given as goal
 
 abbrev pub invariant-loop-k : goal.invariant-loop-k
-invariant-loop-k g l = Added (product_at g.P.Part.product l.x l.w) l.i (min l.k l.m) l.initial.a l.a
+invariant-loop-k g l = Added (product_at g.P.Part.product l.t.x.now l.t.w.now) l.i (min l.k l.m) l.initial.a l.a

@@ -5,4 +5,4 @@ use Rattle.dot.proofs.Lanes.{Lanes}
 use Rattle.dot.proofs.sum.Given as goal
 
 abbrev pub invariant-loop-b : goal.invariant-loop-b
-invariant-loop-b g l = Lanes (product_at g.P.Part.product l.x l.w) (8 * l.b) l.a
+invariant-loop-b g l = Lanes (product_at g.P.Part.product l.t.x.now l.t.w.now) (8 * l.b) l.a
