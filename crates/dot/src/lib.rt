@@ -99,6 +99,7 @@ fn sum<P: Part>(t: Taps) -> f32
 }
 
 // The sum. One pass for each component compiles to wider vectors.
+#[tactic(auto, unfolding(definition::specs::Slices::filter_sum))]
 fn filter_sum(t: Taps) -> C32
     ensures { result ≡ filter_sum t.entry.n t.entry.x.now t.entry.w.now }
 {
@@ -109,6 +110,7 @@ fn filter_sum(t: Taps) -> C32
 }
 
 // The sum over as many complex numbers as both slices hold.
+#[tactic(auto, unfolding(definition::specs::Slices::dot_complex))]
 pub fn dot_complex_c32(x: &[f32], w: &[f32]) -> C32
     ensures { result ≡ dot_complex x.now w.now }
 {

@@ -24,6 +24,7 @@ fn numbers(n: usize) -> Result<usize, DotError>
 }
 
 // The sum over two slices of one length.
+#[tactic(auto, unfolding(crate::specs::Dot::dot_def))]
 pub fn dot_complex(x: &[f32], w: &[f32]) -> Result<C32, DotError>
     ensures { result ≡ dot_def x.now w.now }
 {

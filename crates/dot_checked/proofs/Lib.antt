@@ -1,2 +1,0 @@
--- Answers: one law for each exit of dot_complex.
-pub mod Answers
