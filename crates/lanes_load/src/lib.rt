@@ -29,14 +29,12 @@ pub fn joined(x: &mut [f32], re: &[f32], im: &[f32], at: usize, from: usize, cou
     }
 }
 
-// count values from `from` on to the higher place `to`, the last one first.
+// count values from `from` on to the place `to`.
 pub fn moved(x: &mut [f32; 288], from: usize, to: usize, count: usize)
     requires { (from ≤ to) × (to + count ≤ 288) }
     ensures { Moved from to count x.old x.new }
 {
-    for i in (0..count).rev() {
-        x[to + i] = x[from + i];
-    }
+    x.copy_within(from..from + count, to);
 }
 
 // The limits of the lanes: TINY for n forward weights, from 0 on, and m feedback weights, from 72 + front on, infinity for padding.

@@ -36,14 +36,11 @@ fn linear_runs(
 {
     let mut ahead = Ahead::ZERO;
     let mut s = state;
-    let mut i = 0usize;
-    while i < marks.len() {
-        let len = RUN.min(marks.len() - i);
-        let e = i + len;
+    for i in (0..marks.len()).step_by(RUN) {
+        let e = i + RUN.min(marks.len() - i);
         s = run_one::run(
             s, t, g, n, w, limit, h, &mut ahead, input, output, marks, i, e,
         );
-        i = e;
     }
     s
 }
