@@ -13,34 +13,28 @@ ghost use Rattle.run_block.specs.Block.{AllRuns, Empty, Loads, Stores, Asked};
 
 use lanes::{RUN, Shape, Weights, Window};
 use lanes_prepare::Ahead;
+use run_samples::Call;
 use types::EqualizeState;
 
 // All runs of a block.
 fn linear_runs(
     state: EqualizeState,
-    t: &[u32; 4097],
-    g: Shape,
-    n: usize,
+    call: &Call,
     w: &mut Weights,
-    limit: &[f32; 144],
     h: &mut Window,
     input: &[f32],
     output: &mut [f32],
     marks: &mut [u8],
 ) -> EqualizeState
-    requires t_value { t.now ≡ cos_bits }
     requires input_len { (length input.now ≡ 2 * length marks.old) × (length output.old ≡ 2 * length marks.old) }
-    requires n_bound { n ≤ 63 }
     requires state_value { rule_r4 state ≡ true }
-    ensures { AllRuns state g n limit.now (arrays_of w.old h.old) input.now (arrays_of w.new h.new) output.new marks.new result }
+    ensures { AllRuns state call.now.shape call.now.n call.now.limit (arrays_of w.old h.old) input.now (arrays_of w.new h.new) output.new marks.new result }
 {
     let mut ahead = Ahead::ZERO;
     let mut s = state;
     for i in (0..marks.len()).step_by(RUN) {
         let e = i + RUN.min(marks.len() - i);
-        s = run_one::run(
-            s, t, g, n, w, limit, h, &mut ahead, input, output, marks, i, e,
-        );
+        s = run_one::run(s, call, w, h, &mut ahead, input, output, marks, i, e);
     }
     s
 }
@@ -113,12 +107,16 @@ pub fn linear_state(
     ensures { Ran (run_def (equalizer state weights.old window.old) (samples_of input.now))
         (equalizer result weights.new window.new) output.new marks.new }
 {
-    let g = shape_of(n, m);
-    let limit = lanes_load::limits(n, n % 8, m);
+    let call = Call {
+        table: t,
+        n,
+        shape: shape_of(n, m),
+        limit: lanes_load::limits(n, n % 8, m),
+    };
     let mut w = Weights::ZERO;
     let mut h = Window::ZERO;
     load_linear(weights, window, n, m, &mut w, &mut h);
-    let s = linear_runs(state, t, g, n, &mut w, &limit, &mut h, input, output, marks);
+    let s = linear_runs(state, &call, &mut w, &mut h, input, output, marks);
     store_linear(weights, window, n, m, &w, &h);
     s
 }

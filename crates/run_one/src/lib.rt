@@ -2,13 +2,13 @@
 #![tactic(auto)]
 
 ghost use Rattle.std.specs.Prelude.{◌≡◌, true, ◌+◌, ◌-◌, ◌*◌, ◌≤◌, length};
-ghost use Rattle.tables.specs.Table.{cos_bits};
 ghost use Rattle.definition.specs.Rules.{rule_r4};
 ghost use Rattle.lanes.specs.Arrays.{arrays_of};
 ghost use Rattle.run_one.specs.WholeRun.{Prepared, Finished, WholeRun};
 
-use lanes::{RUN, Shape, Weights, Window};
+use lanes::{RUN, Weights, Window};
 use lanes_prepare::Ahead;
+use run_samples::Call;
 use types::EqualizeState;
 
 // The samples of a run into the window, and what depends on them alone.
@@ -40,11 +40,8 @@ fn finish_run(h: &mut Window, len: usize, n: usize, m: usize)
 // One run: the samples i .. e, at most 64.
 pub fn run(
     state: EqualizeState,
-    t: &[u32; 4097],
-    g: Shape,
-    n: usize,
+    call: &Call,
     w: &mut Weights,
-    limit: &[f32; 144],
     h: &mut Window,
     ahead: &mut Ahead,
     input: &[f32],
@@ -53,29 +50,25 @@ pub fn run(
     i: usize,
     e: usize,
 ) -> EqualizeState
-    requires t_value { t.now ≡ cos_bits }
     requires input_len { (length input.now ≡ 2 * length marks.old) × (length output.old ≡ 2 * length marks.old) }
-    requires n_bound { n ≤ 63 }
     requires i_le_e { (i ≤ e) × ((e ≤ i + 64) × (e ≤ length marks.old)) }
     requires state_value { rule_r4 state ≡ true }
-    ensures { WholeRun state g n limit.now (arrays_of w.old h.old) input.now output.old marks.old i e
+    ensures { WholeRun state call.now.shape call.now.n call.now.limit (arrays_of w.old h.old) input.now output.old marks.old i e
         (arrays_of w.new h.new) output.new marks.new result }
 {
     let a = 2 * i;
     let b = 2 * e;
-    prepare_run(state, h, ahead, &input[a..b], n);
+    prepare_run(state, h, ahead, &input[a..b], call.n);
     let r = run_samples::run(
         state,
-        t,
-        g,
+        call,
         w,
-        limit,
         h,
         ahead,
         &input[a..b],
         &mut output[a..b],
         &mut marks[i..e],
     );
-    finish_run(h, e - i, n, g.m);
+    finish_run(h, e - i, call.n, call.shape.m);
     r
 }

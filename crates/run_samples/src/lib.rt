@@ -15,6 +15,17 @@ use lanes_prepare::Ahead;
 use steps::{Sampled, Stage};
 use types::{C32, EqualizeState, Mark};
 
+// What a call fixes: the cosine table, the forward taps, the shape, and the limits of the lanes.
+#[derive(Clone, Copy)]
+pub struct Call<'a> {
+    pub table: &'a [u32; 4097],
+    pub n: usize,
+    pub shape: Shape,
+    pub limit: [f32; 144],
+    pub ghost is_cosine: { table.now ≡ cos_bits },
+    pub ghost most: { n ≤ 63 },
+}
+
 // The step size of a sample: made ahead without feedback.
 fn step_size(s: EqualizeState, m: usize, ahead: f32, power: f32) -> f32
     ensures { result ≡ size_of s m ahead power }
@@ -28,46 +39,40 @@ fn step_size(s: EqualizeState, m: usize, ahead: f32, power: f32) -> f32
 // A sample whose sum is finite: its step, and the weights after it.
 fn hear(
     s: EqualizeState,
-    t: &[u32; 4097],
-    g: Shape,
+    call: &Call,
     at: usize,
     y: C32,
     forward: f32,
     size: f32,
     w: &mut Weights,
-    limit: &[f32; 144],
     h: &Window,
 ) -> Stage
-    requires t_value { t.now ≡ cos_bits }
-    requires at_bound { at ≤ 63 }
+    requires { at ≤ 63 }
     ensures value { result ≡ heard_of (step_of s y forward size) }
-    ensures adapts { Adapts (step_of s y forward size).update w.old.re w.old.im limit.now h.now.re h.now.im at g.quads
-        (at + 153 - g.front) g.mquads g.centre
-        w.new.re w.new.im }
+    ensures adapts { let g = call.now.shape in
+        Adapts (step_of s y forward size).update w.old.re w.old.im call.now.limit h.now.re h.now.im at g.quads
+        (at + 153 - g.front) g.mquads g.centre w.new.re w.new.im }
 {
-    let r = steps::follow(s, t, y, forward, size);
-    lanes_adapt::update_split(r.update, w, limit, h, g, at);
+    let r = steps::follow(s, call.table, y, forward, size);
+    lanes_adapt::update_split(r.update, w, &call.limit, h, call.shape, at);
     steps::heard(r)
 }
 
 // The sample x, which stands at `at` in the forward window: steps 2 to 7.
 fn take(
     s: EqualizeState,
-    t: &[u32; 4097],
-    g: Shape,
+    call: &Call,
     at: usize,
     x: C32,
     forward: f32,
     ahead: f32,
     w: &mut Weights,
-    limit: &[f32; 144],
     h: &Window,
 ) -> Stage
-    requires t_value { t.now ≡ cos_bits }
-    requires at_bound { at ≤ 63 }
-    ensures { Takes s g at x forward ahead limit.now (arrays_of w.old h.now) w.new.re w.new.im result }
+    requires { at ≤ 63 }
+    ensures { Takes s call.now.shape at x forward ahead call.now.limit (arrays_of w.old h.now) w.new.re w.new.im result }
 {
-    let f = lanes_sample::measure(g, at, w, h, forward);
+    let f = lanes_sample::measure(call.shape, at, w, h, forward);
     let y = f.y;
     if !numeric::finite_c(x) {
         return steps::unheard(s, Mark::Blank);
@@ -75,29 +80,26 @@ fn take(
     if !numeric::finite_c(y) {
         return steps::unheard(s, Mark::Spilled);
     }
-    let size = step_size(s, g.m, ahead, f.power);
-    hear(s, t, g, at, y, forward, size, w, limit, h)
+    let size = step_size(s, call.shape.m, ahead, f.power);
+    hear(s, call, at, y, forward, size, w, h)
 }
 
 // The sample x, steps 2 to 8.
 fn sample(
     s: EqualizeState,
-    t: &[u32; 4097],
-    g: Shape,
+    call: &Call,
     at: usize,
     x: C32,
     forward: f32,
     ahead: f32,
     w: &mut Weights,
-    limit: &[f32; 144],
     h: &mut Window,
 ) -> Sampled
-    requires t_value { t.now ≡ cos_bits }
     requires at_bound { at ≤ 63 }
     requires s_value { rule_r4 s ≡ true }
-    ensures { Samples s g at x forward ahead limit.now (arrays_of w.old h.old) (arrays_of w.new h.new) result }
+    ensures { Samples s call.now.shape at x forward ahead call.now.limit (arrays_of w.old h.old) (arrays_of w.new h.new) result }
 {
-    let r = take(s, t, g, at, x, forward, ahead, w, limit, h);
+    let r = take(s, call, at, x, forward, ahead, w, h);
     lanes_sample::feed(h, at + 152, r.fed);
     let state = record_mode::advance(steps::with_track(s, r.track));
     Sampled {
@@ -110,20 +112,17 @@ fn sample(
 // The samples of a run, at most 64, which stand in the forward window: the first at 63.
 pub fn run(
     state: EqualizeState,
-    t: &[u32; 4097],
-    g: Shape,
+    call: &Call,
     w: &mut Weights,
-    limit: &[f32; 144],
     h: &mut Window,
     ahead: &Ahead,
     input: &[f32],
     output: &mut [f32],
     marks: &mut [u8],
 ) -> EqualizeState
-    requires t_value { t.now ≡ cos_bits }
     requires marks_len_bound { (length marks.old ≤ 64) × ((length input.now ≡ 2 * length marks.old) × (length output.old ≡ 2 * length marks.old)) }
     requires state_value { rule_r4 state ≡ true }
-    ensures { Runs state g limit.now (arrays_of w.old h.old) ahead.now.power ahead.now.steps input.now
+    ensures { Runs state call.now.shape call.now.limit (arrays_of w.old h.old) ahead.now.power ahead.now.steps input.now
         (arrays_of w.new h.new) output.new marks.new result }
 {
     let mut s = state;
@@ -134,18 +133,7 @@ pub fn run(
             re: input[j],
             im: input[j + 1],
         };
-        let r = sample(
-            s,
-            t,
-            g,
-            at,
-            x,
-            ahead.power[at],
-            ahead.steps[at],
-            w,
-            limit,
-            h,
-        );
+        let r = sample(s, call, at, x, ahead.power[at], ahead.steps[at], w, h);
         output[j] = r.out.re;
         output[j + 1] = r.out.im;
         marks[k] = u8::from(r.mark);

@@ -7,7 +7,7 @@ use Rattle.run_block.proofs.linear_runs.Given as goal
 
 abbrev pub invariant-loop-i : goal.invariant-loop-i
 invariant-loop-i l =
-    BlockLoop l.initial.s l.g l.n l.limit (arrays_of l.initial.w l.initial.h) l.input l.initial.output l.initial.marks (arrays_of l.w l.h) l.output l.marks l.s (min l.i (length l.marks))
+    BlockLoop l.initial.s l.call.shape l.call.n l.call.limit (arrays_of l.initial.w l.initial.h) l.input l.initial.output l.initial.marks (arrays_of l.w l.h) l.output l.marks l.s (min l.i (length l.marks))
 
 abbrev pub decreases-loop-i : goal.decreases-loop-i
 decreases-loop-i l = length l.marks - l.i

@@ -2,8 +2,8 @@
 use Rattle.run_block.proofs.Call.{asked-shape, asked-long, asked-r4}
 use Rattle.run_block.proofs.linear_state.Goals as goal
 
-pub shape_of-g-requires : goal.shape_of-g-requires
-shape_of-g-requires c =
+pub shape_of-requires : goal.shape_of-requires
+shape_of-requires c =
     let asked = c.requires in
     asked-shape _ _ _ _ _ _ _ _ asked.asked
 
