@@ -44,30 +44,6 @@ between_down f j to {old} {l} v e g b m =
       high = λ k h. get_or-set_other l j k (f j) nan (λ (q : k ≡ j). omega arith) ∙ m.high k h;
     })
 
--- values moved up, the last one first: what is read has not been written
-pub between_move : (x₀ : List Float) (from to count i : ℕ) {x : List Float} → from ≤ to → 0 < i → i ≤ count → to + count ≤ length x₀
-    → Between (λ k. get_or x₀ (from + (k - to)) nan) (to + i) (to + count) x₀ x
-    → Between (λ k. get_or x₀ (from + (k - to)) nan) (to + (i - 1)) (to + count) x₀ (set x (to + (i - 1)) (get_or x (from + (i - 1)) nan))
-between_move x₀ from to count i {x} a b c d m =
-    let e : to + i ≡ to + (i - 1) + 1 = omega arith in
-    let f : from + (to + (i - 1) - to) ≡ from + (i - 1) = omega arith in
-    between_down (λ k. get_or x₀ (from + (k - to)) nan) (to + (i - 1)) (to + count) (get_or x (from + (i - 1)) nan) (m.low (from + (i - 1)) (omega arith) ∙ rw f)
-    (omega arith) (omega (arith, m.long)) (rw e at m)
-
-join_at : (f : ℕ → Float) (from mid to k : ℕ) {old l l' : List Float} → Between f from mid old l → Between f mid to l l' → from ≤ k → k < to → Dec (k < mid)
-    → get_or l' k nan ≡ f k
-join_at f from mid to k a b g h (yes q) = b.low k q ∙ a.done k g q
-join_at f from mid to k a b g h (no q) = b.done k (omega arith) h
-
-pub between_join : (f : ℕ → Float) (from mid to : ℕ) {old l l' : List Float} → from ≤ mid → mid ≤ to → Between f from mid old l → Between f mid to l l'
-    → Between f from to old l'
-between_join f from mid to i j a b = record {
-  long = b.long ∙ a.long;
-  done = λ k g h. join_at f from mid to k a b g h (dec_lt k mid);
-  low = λ k h. b.low k (omega arith) ∙ a.low k h;
-  high = λ k h. b.high k h ∙ a.high k (omega arith);
-}
-
 -- a part written whole
 pub between_put : (f : ℕ → Float) (j e n : ℕ) (old part : List Float) → length part ≡ n → n ≡ e - j → j ≤ e → e ≤ length old → ((k : ℕ) → k < n → get_or part k nan ≡ f (j + k))
     → Between f j e old (put_mid j n old part)

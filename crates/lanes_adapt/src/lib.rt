@@ -10,6 +10,7 @@ use lanes::{Shape, Weights, Window};
 use types::Update;
 
 // +0 where |v| is below the lane's limit: TINY, and infinity for padding.
+#[tactic(auto, unfolding(crate::specs::Steps::kept_of))]
 fn kept(v: f32, limit: f32) -> f32
     ensures { result ≡ kept_of v limit }
 {
@@ -55,6 +56,7 @@ fn update_half(
 }
 
 // Whether a lane that is no padding is not finite.
+#[tactic(auto, unfolding(crate::specs::Steps::broken_at))]
 fn broken_at(r: f32, m: f32, limit: f32) -> bool
     ensures { result ≡ broken_at r m limit }
 {
@@ -73,6 +75,7 @@ fn broken(w: &Weights, limit: &[f32; 144]) -> bool
 }
 
 // +0 for padding, and for each lane where the weights start anew.
+#[tactic(auto, unfolding(crate::specs::Steps::clear_of))]
 fn clear(v: f32, limit: f32, all: bool) -> f32
     ensures { result ≡ clear_of v limit all }
 {

@@ -25,10 +25,6 @@ module _ (m : EqMode) (total count : ℕ) where
   unfolding left_in
   left-never e f = rw (e, eq-eqb total never_switch f)
 
-  pub left-least : (r : ℕ) → m ≡ Cma → (total ≡ 4294967295 → ⊥) → r ≡ min 64 (total - count) → r ≡ left_in m total count
-  unfolding left_in
-  left-least r e f g = g ∙ rw (e, ne_eqb total never_switch f)
-
 pub left_most : (m : EqMode) (total count : ℕ) → left_in m total count ≤ 64
 unfolding left_in
 left_most Decision total count = omega arith

@@ -14,6 +14,7 @@ use lanes::{RUN, Window};
 use types::{EqMode, EqParams, EqualizeState};
 
 // The part of a sample that goes in: +0 where the sample is not finite.
+#[tactic(auto, unfolding(crate::specs::Entered::held_of))]
 fn held(a: f32, ok: bool) -> f32
     ensures { result ≡ held_of a ok }
 {
@@ -94,6 +95,7 @@ pub fn powers(power: &mut [f32; RUN], q: &[f32; 288], from: usize, n: usize)
 }
 
 // mu / (P + NLMS_EPS) for the windows from .. to.
+#[tactic(auto, using(lanes::proofs::Between::between_more), unfolding(definition::specs::Sample::step_size))]
 fn divide(steps: &mut [f32; RUN], power: &[f32; RUN], from: usize, to: usize, mu: f32)
     requires { (from ≤ to) × (to ≤ 64) }
     ensures { Between (λ i. step_size mu (get_or power.now i nan)) from to steps.old steps.new }
@@ -104,6 +106,7 @@ fn divide(steps: &mut [f32; RUN], power: &[f32; RUN], from: usize, to: usize, mu
 }
 
 // How many samples from now on are in Cma, at most RUN.
+#[tactic(auto, unfolding(crate::specs::Clock::left_in))]
 fn cma_left(s: EqualizeState) -> usize
     ensures { result ≡ cma_left s }
 {
@@ -116,6 +119,7 @@ fn cma_left(s: EqualizeState) -> usize
 }
 
 // The step sizes, each by the mode that its sample will have.
+#[tactic(auto, using(crate::proofs::Clock::left_most))]
 pub fn sizes(ahead: &mut Ahead, s: EqualizeState, from: usize)
     requires { from ≤ 64 }
     ensures sizes { StepSizes s ahead.old.power from ahead.new.steps }

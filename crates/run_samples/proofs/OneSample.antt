@@ -39,16 +39,6 @@ use Rattle.steps.specs.declared.Stage.{Stage}
 use Rattle.steps.specs.Step.{track_of, update_if, step_at, step_with, step_of, with_track, heard_of, unheard_of, stage, did}
 use Rattle.run_samples.specs.Sample.{size_of, stage_of, Before, StageIs, Takes, Samples}
 
--- ---- the step size
-module _ (s : EqualizeState) (P : Float) (m : ℕ) (ahead : Float) where
-  pub size-ahead : m ≡ 0 → ahead ≡ size_of s m ahead P
-  unfolding size_of
-  size-ahead e = rw (eq-eqb m 0 e)
-
-  pub size-now : (m ≡ 0 → ⊥) → (v : Float) → v ≡ step_size (mu_of s.mode s.params) P → v ≡ size_of s m ahead P
-  unfolding size_of
-  size-now d v e = rw (ne_eqb m 0 d) e
-
 -- ---- steps 4 to 7
 step_heard : (s : EqualizeState) (w h : List Float) (n f : ℕ) (y : C32) (F size : Float) → F ≡ power h f → size ≡ step_size (mu_of s.mode s.params) (power h n)
     → stage s (heard_of (step_of s y F size)) (adapted (step_of s y F size).update n f w h) ≡ heard_as s w n f h (hear s n f h y)

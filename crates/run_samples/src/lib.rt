@@ -27,6 +27,7 @@ pub struct Call<'a> {
 }
 
 // The step size of a sample: made ahead without feedback.
+#[tactic(auto, unfolding(crate::specs::Sample::size_of))]
 fn step_size(s: EqualizeState, m: usize, ahead: f32, power: f32) -> f32
     ensures { result ≡ size_of s m ahead power }
 {
