@@ -23,11 +23,15 @@ use Rattle.definition.specs.Rules.{rule_r4, accepted_def}
 use Rattle.definition_laws.proofs.Every.{length_shifted}
 use Rattle.definition_laws.proofs.Parts.{is_true}
 use Rattle.definition_laws.proofs.Accept.{Accepted, accepted_parts, shape}
-use Rattle.plain.specs.Taps.{TapsOf}
+use Rattle.plain.specs.declared.counts.Taps.{Taps}
+use Rattle.plain.specs.Taps.{TapsOf, Beside}
 use Rattle.steps.specs.declared.Stepped.{Stepped}
 use Rattle.steps.specs.declared.Track.{Track}
 use Rattle.steps.specs.declared.Stage.{Stage}
 use Rattle.steps.specs.Step.{track_of, update_if, step_at, step_with, with_track, heard_of, unheard_of, stage}
+
+pub sized : (s : EqualizeState) (w h : List Float) (t : Taps) → Beside s w h t → TapsOf s w h t.all t.forward
+sized s w h t b = record { some = t.some; most = t.most; back = omega (arith, t.back, b.sum); sum = b.sum; weights = b.weights; window = b.window }
 
 -- ---- steps 4 to 7
 
@@ -79,16 +83,10 @@ with_track_r4 s t e = e
 pub tracked_r4 : (s k : EqualizeState) (t : Track) → rule_r4 s ≡ true → k ≡ with_track s t → rule_r4 k ≡ true
 tracked_r4 s k t e d = rw d (with_track_r4 s t e)
 
-pub sized_again : (s : EqualizeState) (w h k : List Float) (n f : ℕ) → TapsOf s w h n f → (v : C32) → k ≡ shifted f v h → TapsOf s w k n f
-sized_again s w h k n f z v e =
-    let l : length (shifted f v h) ≡ length h = length_shifted f v h (omega (arith, z.sum, z.window)) in
-    record { some = z.some; most = z.most; back = z.back; sum = z.sum; weights = z.weights; window = ap length e ∙ l ∙ z.window }
-
-pub feed_fits : (s : EqualizeState) (w h k : List Float) (n f : ℕ) (v : C32) → TapsOf s w h n f → k ≡ shifted f v h
-    → (length k ≡ 2 * (f + s.params.feedback_taps)) × (f + s.params.feedback_taps ≤ 126)
-feed_fits s w h k n f v z e =
-    let l : length (shifted f v h) ≡ length h = length_shifted f v h (omega (arith, z.sum, z.window)) in
-    (rw e (omega (arith, l, z.sum, z.window)), omega (arith, z.most, z.back))
+pub beside_again : (s : EqualizeState) (w h k : List Float) (t : Taps) → Beside s w h t → (v : C32) → k ≡ shifted t.forward v h → Beside s w k t
+beside_again s w h k t z v e =
+    let l : length (shifted t.forward v h) ≡ length h = length_shifted t.forward v h (omega (arith, z.sum, z.window)) in
+    record { sum = z.sum; weights = z.weights; window = ap length e ∙ l ∙ z.window }
 
 module _ (s : EqualizeState) (w h : List Float) (x : C32) (n f : ℕ) (z : TapsOf s w h n f) where
   pub sample-is : (st : C32) (h1 v h2 : List Float) (r : Stage) (k nx : EqualizeState) → st ≡ sanitized x → h1 ≡ shifted f st h

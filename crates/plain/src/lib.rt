@@ -1,19 +1,21 @@
-// The plain path, step by step over the caller's slices: n taps in all, f of them forward, m of them feedback.
+// The plain path, step by step over the caller's slices.
 #![tactic(auto)]
 
+use counts::Taps;
 use steps::{Sampled, Stage};
 use types::{C32, EqualizeState, Mark};
 
+mod counts;
 mod slices;
 
-ghost use Rattle.std.specs.Prelude.{◌≡◌, true, ◌++◌, ◌+◌, ◌*◌, ◌≤◌, length, take, drop};
+ghost use Rattle.std.specs.Prelude.{◌≡◌, true, ◌++◌, ◌-◌, ◌*◌, ◌≤◌, length, take, drop};
 ghost use Rattle.definition.specs.Slices.{shifted, samples_of};
 ghost use Rattle.definition.specs.Packed.{equalizer, ServedBlock, Ran};
 ghost use Rattle.definition.specs.Sample.{sanitized, step2, step3, hear as hearDef, heard_as, sample_def};
 ghost use Rattle.definition.specs.Rules.{rule_r4, accepted_def};
 ghost use Rattle.definition.specs.Run.{run_def};
 ghost use Rattle.steps.specs.Step.{stage, did};
-ghost use Rattle.plain.specs.Taps.{TapsOf};
+ghost use Rattle.plain.specs.Taps.{Beside};
 
 // What the window stores: v, or zero where a part is not finite.
 fn sanitize(v: C32) -> C32
@@ -26,23 +28,23 @@ fn sanitize(v: C32) -> C32
 }
 
 // Steps 4 to 7: a sample whose sum y is finite. Cosine and sine come before the powers: they need not wait behind those long sums.
-fn hear(s: EqualizeState, w: &mut [f32], h: &[f32], y: C32, n: usize, f: usize) -> Stage
-    requires { TapsOf s w.old h.now n f }
-    ensures { stage s result w.new ≡ heard_as s w.old n f h.now (hearDef s n f h.now y) }
+fn hear(s: EqualizeState, w: &mut [f32], h: &[f32], y: C32, taps: Taps) -> Stage
+    requires { Beside s w.old h.now taps }
+    ensures { stage s result w.new ≡ heard_as s w.old taps.all taps.forward h.now (hearDef s taps.all taps.forward h.now y) }
 {
     let turn = mix::interp_f32_pair(s.phase);
-    let forward = slices::window_power(h, 0, 0.0, f);
-    let power = slices::window_power(h, f, forward, n);
+    let forward = slices::window_power(h, 0, 0.0, taps.forward);
+    let power = slices::window_power(h, taps.forward, forward, taps.all);
     let size = steps::size_of(s, power);
     let r = steps::step(s, turn, y, forward, size);
-    slices::update_weights(r.update, w, h, n, f);
+    slices::update_weights(r.update, w, h, taps);
     Stage::from(r)
 }
 
 // Steps 2 to 7, over the shifted window.
-fn take(s: EqualizeState, w: &mut [f32], h: &[f32], x: C32, n: usize, f: usize) -> Stage
-    requires { TapsOf s w.old h.now n f }
-    ensures { stage s result w.new ≡ step3 s w.old n f x h.now (step2 n w.old h.now) }
+fn take(s: EqualizeState, w: &mut [f32], h: &[f32], x: C32, taps: Taps) -> Stage
+    requires { Beside s w.old h.now taps }
+    ensures { stage s result w.new ≡ step3 s w.old taps.all taps.forward x h.now (step2 taps.all w.old h.now) }
 {
     if !numeric::finite_c(x) {
         return Stage::unheard(s, Mark::Blank);
@@ -51,16 +53,16 @@ fn take(s: EqualizeState, w: &mut [f32], h: &[f32], x: C32, n: usize, f: usize) 
     if !numeric::finite_c(y) {
         return Stage::unheard(s, Mark::Spilled);
     }
-    hear(s, w, h, y, n, f)
+    hear(s, w, h, y, taps)
 }
 
-// v into the m numbers of the window that start at f.
-fn feed(h: &mut [f32], f: usize, m: usize, v: C32)
-    requires { (length h.old ≡ 2 * (f + m)) × (f + m ≤ 126) }
-    ensures { h.new ≡ take (2 * f) h.old ++ shifted m v (drop (2 * f) h.old) }
+// v into the feedback taps' part of the window.
+fn feed(h: &mut [f32], taps: Taps, v: C32)
+    requires { length h.old ≡ 2 * taps.all }
+    ensures { h.new ≡ take (2 * taps.forward) h.old ++ shifted (taps.all - taps.forward) v (drop (2 * taps.forward) h.old) }
 {
-    let a = 2 * f;
-    slices::shift(&mut h[a..], m, v);
+    let a = 2 * taps.forward;
+    slices::shift(&mut h[a..], taps.feedback(), v);
 }
 
 // Steps 1 to 8.
@@ -69,16 +71,15 @@ fn sample_sized(
     w: &mut [f32],
     h: &mut [f32],
     x: C32,
-    n: usize,
-    f: usize,
+    taps: Taps,
 ) -> Sampled
-    requires taps_of { TapsOf s w.old h.old n f }
+    requires beside { Beside s w.old h.old taps }
     requires s_value { rule_r4 s ≡ true }
     ensures { did result w.new h.new ≡ sample_def (equalizer s w.old h.old) x }
 {
-    slices::shift(h, f, sanitize(x));
-    let r = take(s, w, h, x, n, f);
-    feed(h, f, s.params.feedback_taps, r.fed);
+    slices::shift(h, taps.forward, sanitize(x));
+    let r = take(s, w, h, x, taps);
+    feed(h, taps, r.fed);
     Sampled {
         state: record_mode::advance(r.track.on(s)),
         out: r.out,
@@ -91,9 +92,12 @@ fn sample(s: EqualizeState, w: &mut [f32], h: &mut [f32], x: C32) -> Sampled
     requires { accepted_def (equalizer s w.old h.old) ≡ true }
     ensures { did result w.new h.new ≡ sample_def (equalizer s w.old h.old) x }
 {
-    let n = w.len() / 2;
-    let f = n - s.params.feedback_taps;
-    sample_sized(s, w, h, x, n, f)
+    let all = w.len() / 2;
+    let taps = Taps {
+        all,
+        forward: all - s.params.feedback_taps,
+    };
+    sample_sized(s, w, h, x, taps)
 }
 
 // A block of samples.

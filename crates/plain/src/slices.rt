@@ -4,6 +4,7 @@ ghost use Rattle.definition.specs.Floats.{◌+f◌, ◌-f◌, ◌*f◌, flush, n
 ghost use Rattle.definition.specs.Slices.{re_at, im_at, shifted, power as powerDef, updated};
 ghost use Rattle.definition.specs.Sample.{adapted};
 
+use crate::counts::Taps;
 use types::{C32, Update};
 
 // Complex number i.
@@ -81,15 +82,15 @@ fn renew(w: &mut [f32], x: &[f32], g: C32, n: usize)
 }
 
 // The weights after an update. One that is not finite sets them all to the start weights.
-pub(crate) fn update_weights(u: Update, w: &mut [f32], x: &[f32], n: usize, taps: usize)
-    requires { (length w.old ≡ 2 * n) × ((2 * n ≤ length x.now) × ((1 ≤ taps) × (taps ≤ n))) }
-    ensures { w.new ≡ adapted u n taps w.old x.now }
+pub(crate) fn update_weights(u: Update, w: &mut [f32], x: &[f32], taps: Taps)
+    requires { (length w.old ≡ 2 * taps.all) × (2 * taps.all ≤ length x.now) }
+    ensures { w.new ≡ adapted u taps.all taps.forward w.old x.now }
 {
     let Update::Step(gr, gi) = u else {
         return;
     };
-    renew(w, x, C32 { re: gr, im: gi }, n);
+    renew(w, x, C32 { re: gr, im: gi }, taps.all);
     if !record_rules::all_finite(w) {
-        record_start::start_weights(w, n, taps);
+        record_start::start_weights(w, taps.all, taps.forward);
     }
 }
