@@ -23,6 +23,7 @@ fn same_bits(x: f32, y: f32) -> bool
 }
 
 // At most 63.
+#[tactic(auto, unfolding(definition::specs::Rules::feedback_fits))]
 pub fn feedback_fits(m: usize) -> bool
     ensures { result ≡ feedback_fits m }
 {
@@ -61,6 +62,7 @@ fn plus_zero(v: f32) -> bool
 }
 
 // +0, or finite and at least 1e-30 in magnitude.
+#[tactic(auto, using(crate::proofs::Records::weight_is))]
 fn weight_fits(v: f32) -> bool
     ensures { result ≡ weight_fits v }
 {
@@ -93,6 +95,7 @@ pub fn rule_r1(s: EqualizeState, w: &[f32], h: &[f32]) -> bool
 }
 
 // R2: step sizes and bandwidth, and the gains, which are exactly those of the bandwidth.
+#[tactic(auto, using(crate::proofs::Records::r2_is))]
 pub fn rule_r2(s: EqualizeState) -> bool
     ensures { result ≡ rule_r2 s }
 {
@@ -120,6 +123,7 @@ pub fn all_finite(x: &[f32]) -> bool
 }
 
 // R3: every weight and window part, and the frequency.
+#[tactic(auto, using(crate::proofs::Records::r3_is))]
 fn rule_r3(s: EqualizeState, w: &[f32], h: &[f32]) -> bool
     ensures { result ≡ rule_r3 (equalizer s w.now h.now) }
 {

@@ -12,6 +12,7 @@ pub fn clear(x: &mut [f32])
 }
 
 // The start weights, n of them: the centre forward tap at 1, the others at 0.
+#[tactic(auto, using(definition_laws::proofs::Mapped::start_is))]
 pub fn start_weights(w: &mut [f32], n: usize, taps: usize)
     requires { (length w.old ≡ 2 * n) × ((1 ≤ taps) × (taps ≤ n)) }
     ensures { w.new ≡ start_weights n (taps / 2) }
