@@ -4,7 +4,7 @@
 ghost use Rattle.std.specs.Prelude.{◌≡◌};
 ghost use Rattle.definition.specs.Points.{side as sideDef, decide as decideDef, radius};
 
-use types::{C32, EqConstellation};
+use types::{C32, EqConstellation, Qam};
 
 // Each part of the QPSK points, 1 / sqrt(2).
 const QPSK_A: f32 = 0.70710677;
@@ -34,8 +34,8 @@ pub fn decide(k: EqConstellation, y: C32) -> C32
             im: side(y.im, QPSK_A),
         },
         EqConstellation::Psk8 => costas::octant_point(y),
-        EqConstellation::Qam16 => constellation_qam::point16(y),
-        EqConstellation::Qam64 => constellation_qam::point64(y),
+        EqConstellation::Qam16 => constellation_qam::decide_qam(Qam::Qam16, y),
+        EqConstellation::Qam64 => constellation_qam::decide_qam(Qam::Qam64, y),
     }
 }
 
@@ -44,9 +44,7 @@ pub fn cma_r2(k: EqConstellation) -> f32
     ensures { result ≡ radius k }
 {
     match k {
-        EqConstellation::Bpsk => 1.0,
-        EqConstellation::Qpsk => 1.0,
-        EqConstellation::Psk8 => 1.0,
+        EqConstellation::Bpsk | EqConstellation::Qpsk | EqConstellation::Psk8 => 1.0,
         EqConstellation::Qam16 => QAM16_R2,
         EqConstellation::Qam64 => QAM64_R2,
     }

@@ -1,17 +1,19 @@
--- The floor of a float held to 0 .. 3 or 0 .. 7, and what stands at it, by a tree of comparisons. Assumes nothing.
+-- The floor of a float held to 0 .. k, and what stands at it, by comparisons with 1, 2 and so on. Assumes nothing.
 use mathlib.Core.Path.{◌≡◌, refl, sym, ap, ◌∙◌, subst}
 use mathlib.Core.Bool.{Bool, true, false, cond}
-use Prim.Native.Nat.{ℕ, ◌*◌, ◌/◌, ◌^◌, ◌≤◌, ◌<◌}
-use native.Mathlib.Nat.{le_of_eq, mul-one, le-min, le-div_iff_mul-le, div-lt_iff_lt-mul, lt_of_le_of_lt, min-le_right, min-le_left, zero-mul, le_of_mul-le-mul_right}
+use mathlib.Core.List.{List, [], ◌∷◌}
+use Prim.Native.Nat.{ℕ, zero, suc, ◌-◌, ◌*◌, ◌/◌, ◌^◌, ◌≤◌, ◌<◌, min}
+use native.Mathlib.Nat.{le_of_eq, le_antisymm, mul-one, le-min, le-div_iff_mul-le, div-lt_iff_lt-mul, lt_of_le_of_lt, min-le_right, min-le_left, zero-mul, le_of_mul-le-mul_right}
 use native.Mathlib.Omega.{arith}
 use lib.IntN.{pos}
-use lib.Dec.{T, eqb, eqb→eq, lit≤, lit<}
-use lib.Ieee.{Float, nan, inf, fin, of_bits, of_fields, odd, up, down, lt, le, eq}
+use lib.Count.{count_trailing_zeros}
+use lib.Dec.{T, eqb, eqb→eq}
+use lib.ListN.{length, get_or}
+use lib.Ieee.{Float, nan, inf, fin, binary32, of_int, odd, round, units, size, span, climb, up, down, lt, le, eq}
 use lib.Ieee.Fits.{down_pos, and_r}
+use Rattle.std.proofs.lemmas.List.{get_or_default}
 use Rattle.laws.specs.Order.{le_yes, le_no}
-use Rattle.types.specs.Bits.{f32}
-use Rattle.types.specs.declared.Qam.{Qam}
-use Rattle.definition.specs.Points.{held_to, level_of}
+use Rattle.definition.specs.Points.{held_to}
 
 -- ---- a comparison with the whole number n * 2 ^ j, as a fact on the floor
 
@@ -45,57 +47,89 @@ held_le top (inf false) = le_of_eq refl
 held_le top (fin true m e) = omega arith
 held_le top (fin false m e) = min-le_left top (m * up e / down e)
 
--- ---- the trees: values P 0 .. P 3 or P 0 .. P 7 at the leaves
+-- ---- one number more: what stands at the floor held to k, of what stands at the floor held to k - 1
 
--- t is at least the float of these bits: 1 to 7
+-- the float of k, from 1 to 7, is exact
+exact : (k : ℕ) → 1 ≤ k → k < 8 → (n : ℕ) × (j : ℕ) × (of_int binary32 (pos k) ≡ fin false n (pos j)) × (n * 2 ^ j ≡ k)
+unfolding of_int odd count_trailing_zeros round units size span climb
+exact zero a b = absurd (omega arith)
+exact (suc zero) a b = (1, 0, refl, refl)
+exact (suc (suc zero)) a b = (1, 1, refl, refl)
+exact (suc (suc (suc zero))) a b = (3, 0, refl, refl)
+exact (suc (suc (suc (suc zero)))) a b = (1, 2, refl, refl)
+exact (suc (suc (suc (suc (suc zero))))) a b = (5, 0, refl, refl)
+exact (suc (suc (suc (suc (suc (suc zero)))))) a b = (3, 1, refl, refl)
+exact (suc (suc (suc (suc (suc (suc (suc zero))))))) a b = (7, 0, refl, refl)
+exact (suc (suc (suc (suc (suc (suc (suc (suc k)))))))) a b = absurd (omega arith)
+
+lower_min : (k q : ℕ) → min k q < k → min k q ≡ min (k - 1) q
+lower_min k q h = omega arith
+
+lower : (k : ℕ) (t : Float) → held_to k t < k → held_to k t ≡ held_to (k - 1) t
+unfolding held_to
+lower k nan h = refl
+lower k (inf true) h = refl
+lower k (inf false) h = absurd (omega arith)
+lower k (fin true m e) h = refl
+lower k (fin false m e) h = lower_min k (m * up e / down e) h
+
+positive : (k : ℕ) → 1 ≤ k → 0 < k
+positive k h = omega arith
+
 abbrev reached : ℕ → Float → Bool
-reached bits t = le (f32 bits) t
+reached k t = le (of_int binary32 (pos k)) t
 
-module _ {A : Type 0} (P : ℕ → A) (t : Float) where
-  abbrev tree4 : A
-  tree4 = cond (reached 0x4000_0000 t) (cond (reached 0x4040_0000 t) (P 3) (P 2)) (cond (reached 0x3f80_0000 t) (P 1) (P 0))
+up_to : (k : ℕ) (t : Float) → 1 ≤ k → k < 8 → reached k t ≡ true → held_to k t ≡ k
+up_to k t a b h =
+    let e = exact k a b in
+    le_antisymm (held_le k t) (subst (λ (x : ℕ). x ≤ held_to k t) e.3 (at_least k e.0 e.1 t (le_of_eq e.3) (subst (λ (x : Float). le x t ≡ true) e.2 h)))
 
-  abbrev tree8 : A
-  tree8 =
-      cond (reached 0x4080_0000 t)
-      (cond (reached 0x40c0_0000 t) (cond (reached 0x40e0_0000 t) (P 7) (P 6)) (cond (reached 0x40a0_0000 t) (P 5) (P 4)))
-      (cond (reached 0x4000_0000 t) (cond (reached 0x4040_0000 t) (P 3) (P 2)) (cond (reached 0x3f80_0000 t) (P 1) (P 0)))
+same : (k : ℕ) (t : Float) → 1 ≤ k → k < 8 → reached k t ≡ false → held_to k t ≡ held_to (k - 1) t
+same k t a b h =
+    let e = exact k a b in
+    lower k t
+    (subst (λ (x : ℕ). held_to k t < x) e.3
+    (under k e.0 e.1 t (subst (λ (x : ℕ). 0 < x) (sym e.3) (positive k a)) (subst (λ (x : Float). le x t ≡ false) e.2 h)))
 
-  tree4-is : tree4 ≡ P (held_to 3 t)
-  unfolding of_bits of_fields odd
-  tree4-is = go (reached 0x4000_0000 t) (reached 0x4040_0000 t) (reached 0x3f80_0000 t) refl refl refl
+none : (t : Float) → held_to 0 t ≡ 0
+none t = le_antisymm (held_le 0 t) (omega arith)
+
+module _ {A : Type 0} (xs : List A) (t : Float) where
+  -- before the first comparison
+  pub at_none : (m : ℕ) (y : A) → 0 < length xs → m ≡ 0 → (d : A) → get_or xs 0 y ≡ get_or xs (held_to m t) d
+  at_none m y l s d = get_or_default xs 0 y d l ∙ ap (λ (n : ℕ). get_or xs n d) (sym (none t)) ∙ ap (λ (n : ℕ). get_or xs (held_to n t) d) (sym s)
+
+  -- after one more
+  pub next : (k m : ℕ) (y r r' : A)
+      → 1 ≤ k → k < 8 → k < length xs → m ≡ k → r' ≡ cond (reached k t) (get_or xs k y) r → ((d : A) → r ≡ get_or xs (held_to (k - 1) t) d) → (d : A) → r' ≡ get_or xs (held_to m t) d
+  next k m y r r' a b l s e h d = e ∙ go (reached k t) refl ∙ ap (λ (n : ℕ). get_or xs (held_to n t) d) (sym s)
     where
-      go : (b2 b3 b1 : Bool) → reached 0x4000_0000 t ≡ b2 → reached 0x4040_0000 t ≡ b3 → reached 0x3f80_0000 t ≡ b1 → cond b2 (cond b3 (P 3) (P 2)) (cond b1 (P 1) (P 0)) ≡ P (held_to 3 t)
-      go true true b1 h2 h3 h1 = ap P (omega (arith, at_least 3 3 0 t (lit≤ tt) h3, held_le 3 t))
-      go true false b1 h2 h3 h1 = ap P (omega (arith, at_least 3 1 1 t (lit≤ tt) h2, under 3 3 0 t (lit< tt) h3))
-      go false b3 true h2 h3 h1 = ap P (omega (arith, at_least 3 1 0 t (lit≤ tt) h1, under 3 1 1 t (lit< tt) h2))
-      go false b3 false h2 h3 h1 = ap P (omega (arith, under 3 1 0 t (lit< tt) h1))
+      go : (c : Bool) → reached k t ≡ c → cond c (get_or xs k y) r ≡ get_or xs (held_to k t) d
+      go true p = get_or_default xs k y d l ∙ ap (λ (n : ℕ). get_or xs n d) (sym (up_to k t a b p))
+      go false p = h d ∙ ap (λ (n : ℕ). get_or xs n d) (sym (same k t a b p))
 
-  tree8-is : tree8 ≡ P (held_to 7 t)
-  unfolding of_bits of_fields odd
-  tree8-is = go (reached 0x4080_0000 t) (reached 0x40c0_0000 t) (reached 0x40e0_0000 t) (reached 0x40a0_0000 t) (reached 0x4000_0000 t) (reached 0x4040_0000 t) (reached 0x3f80_0000 t) refl refl refl refl refl refl refl
-    where
-      go : (b4 b6 b7 b5 b2 b3 b1 : Bool)
-          → reached 0x4080_0000 t ≡ b4 → reached 0x40c0_0000 t ≡ b6 → reached 0x40e0_0000 t ≡ b7 → reached 0x40a0_0000 t ≡ b5 → reached 0x4000_0000 t ≡ b2 → reached 0x4040_0000 t ≡ b3 → reached 0x3f80_0000 t ≡ b1
-          → cond b4 (cond b6 (cond b7 (P 7) (P 6)) (cond b5 (P 5) (P 4))) (cond b2 (cond b3 (P 3) (P 2)) (cond b1 (P 1) (P 0))) ≡ P (held_to 7 t)
-      go true true true b5 b2 b3 b1 h4 h6 h7 h5 h2 h3 h1 = ap P (omega (arith, at_least 7 7 0 t (lit≤ tt) h7, held_le 7 t))
-      go true true false b5 b2 b3 b1 h4 h6 h7 h5 h2 h3 h1 = ap P (omega (arith, at_least 7 3 1 t (lit≤ tt) h6, under 7 7 0 t (lit< tt) h7))
-      go true false b7 true b2 b3 b1 h4 h6 h7 h5 h2 h3 h1 = ap P (omega (arith, at_least 7 5 0 t (lit≤ tt) h5, under 7 3 1 t (lit< tt) h6))
-      go true false b7 false b2 b3 b1 h4 h6 h7 h5 h2 h3 h1 = ap P (omega (arith, at_least 7 1 2 t (lit≤ tt) h4, under 7 5 0 t (lit< tt) h5))
-      go false b6 b7 b5 true true b1 h4 h6 h7 h5 h2 h3 h1 = ap P (omega (arith, at_least 7 3 0 t (lit≤ tt) h3, under 7 1 2 t (lit< tt) h4))
-      go false b6 b7 b5 true false b1 h4 h6 h7 h5 h2 h3 h1 = ap P (omega (arith, at_least 7 1 1 t (lit≤ tt) h2, under 7 3 0 t (lit< tt) h3))
-      go false b6 b7 b5 false b3 true h4 h6 h7 h5 h2 h3 h1 = ap P (omega (arith, at_least 7 1 0 t (lit≤ tt) h1, under 7 1 1 t (lit< tt) h2))
-      go false b6 b7 b5 false b3 false h4 h6 h7 h5 h2 h3 h1 = ap P (omega (arith, under 7 1 0 t (lit< tt) h1))
+-- ---- the numbers themselves: k stands at index k
 
-  -- the same by its picks
-  pub picked4 : (lo hi r : A) → lo ≡ cond (reached 0x3f80_0000 t) (P 1) (P 0) → hi ≡ cond (reached 0x4040_0000 t) (P 3) (P 2) → r ≡ cond (reached 0x4000_0000 t) hi lo → r ≡ P (held_to 3 t)
-  picked4 lo hi r a b e = rw (e, a, b) tree4-is
+stands4 : (k : ℕ) → k ≤ 3 → get_or (0 ∷ 1 ∷ 2 ∷ 3 ∷ []) k 0 ≡ k
+stands4 zero h = refl
+stands4 (suc zero) h = refl
+stands4 (suc (suc zero)) h = refl
+stands4 (suc (suc (suc zero))) h = refl
+stands4 (suc (suc (suc (suc k)))) h = absurd (omega arith)
 
-  pub picked8 : (q0 q1 q2 q3 lo hi r : A)
-      → q0 ≡ cond (reached 0x3f80_0000 t) (P 1) (P 0) → q1 ≡ cond (reached 0x4040_0000 t) (P 3) (P 2) → q2 ≡ cond (reached 0x40a0_0000 t) (P 5) (P 4) → q3 ≡ cond (reached 0x40e0_0000 t) (P 7) (P 6)
-      → lo ≡ cond (reached 0x4000_0000 t) q1 q0 → hi ≡ cond (reached 0x40c0_0000 t) q3 q2 → r ≡ cond (reached 0x4080_0000 t) hi lo → r ≡ P (held_to 7 t)
-  picked8 q0 q1 q2 q3 lo hi r a b d e f g h = rw (h, f, g, a, b, d, e) tree8-is
+stands8 : (k : ℕ) → k ≤ 7 → get_or (0 ∷ 1 ∷ 2 ∷ 3 ∷ 4 ∷ 5 ∷ 6 ∷ 7 ∷ []) k 0 ≡ k
+stands8 zero h = refl
+stands8 (suc zero) h = refl
+stands8 (suc (suc zero)) h = refl
+stands8 (suc (suc (suc zero))) h = refl
+stands8 (suc (suc (suc (suc zero)))) h = refl
+stands8 (suc (suc (suc (suc (suc zero))))) h = refl
+stands8 (suc (suc (suc (suc (suc (suc zero)))))) h = refl
+stands8 (suc (suc (suc (suc (suc (suc (suc zero))))))) h = refl
+stands8 (suc (suc (suc (suc (suc (suc (suc (suc k)))))))) h = absurd (omega arith)
 
--- ---- the index, in the arm of each constellation
-pub level_of_lem : (q p : Qam) (v : Float) (r : ℕ) → q ≡ p → r ≡ level_of p v → r ≡ level_of q v
-level_of_lem q p v r h e = cc
+pub numbers4 : (t : Float) → get_or (0 ∷ 1 ∷ 2 ∷ 3 ∷ []) (held_to 3 t) 0 ≡ held_to 3 t
+numbers4 t = stands4 (held_to 3 t) (held_le 3 t)
+
+pub numbers8 : (t : Float) → get_or (0 ∷ 1 ∷ 2 ∷ 3 ∷ 4 ∷ 5 ∷ 6 ∷ 7 ∷ []) (held_to 7 t) 0 ≡ held_to 7 t
+numbers8 t = stands8 (held_to 7 t) (held_le 7 t)

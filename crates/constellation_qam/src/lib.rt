@@ -1,9 +1,10 @@
 // The square constellations: levels, the nearest level of a part, the nearest point.
 #![tactic(auto)]
 
-ghost use Rattle.std.specs.Prelude.{◌≡◌, cond};
-ghost use Rattle.types.specs.declared.Qam.TheVariants as qam;
-ghost use Rattle.definition.specs.Points.{held_to, level_of, level_at, qam_point};
+ghost use Rattle.std.specs.Prelude.{◌≡◌, ℕ, ◌-◌, ◌<◌, ◌≤◌, cond, slice_index_or};
+ghost use Rattle.std.specs.Float.{nan};
+ghost use Rattle.definition.specs.Floats.{◌+f◌, ◌*f◌, complex};
+ghost use Rattle.definition.specs.Points.{held_to, level_of, qam_point};
 
 use types::{C32, Qam};
 
@@ -22,43 +23,67 @@ pub const QAM64_LEVELS: [f32; 8] = [
     1.0801234,
 ];
 
-// sqrt(10) / 2 and sqrt(42) / 2: from a part to the grid of whole numbers.
-const QAM16_HALF_SQRT_E: f32 = 1.5811388;
+// M levels a part. A part v lies at v * scale + half on the grid of whole numbers: scale is the root of the mean power over 2, half is M / 2.
+#[derive(Clone, Copy)]
+struct Grid<const M: usize> {
+    levels: [f32; M],
+    scale: f32,
+    half: f32,
+    ghost small: { (0 < M) × (M ≤ 8) },
+}
 
-const QAM64_HALF_SQRT_E: f32 = 3.2403703;
+// scale is sqrt(10) / 2.
+const QAM16: Grid<4> = Grid {
+    levels: QAM16_LEVELS,
+    scale: 1.5811388,
+    half: 2.0,
+};
 
-fn pick_index(b: bool, yes: u32, no: u32) -> u32
+// scale is sqrt(42) / 2.
+const QAM64: Grid<8> = Grid {
+    levels: QAM64_LEVELS,
+    scale: 3.2403703,
+    half: 4.0,
+};
+
+fn pick<T: Copy>(b: bool, yes: T, no: T) -> T
     ensures { result ≡ cond b yes no }
 {
     if b { yes } else { no }
 }
 
-fn pick(b: bool, yes: f32, no: f32) -> f32
-    ensures { result ≡ cond b yes no }
-{
-    if b { yes } else { no }
-}
+impl<const M: usize> Grid<M> {
+    // What stands in xs at the index of the level nearest to v, the floor of v's place held to 0 .. M - 1, by comparisons that select it: no branch. A NaN
+    // gives the first.
+    fn at<T: Copy>(&self, v: f32, xs: &[T; M]) -> T
+        ensures { (d : T) → result ≡ slice_index_or xs.now (held_to (M - 1) (v *f self.now.scale +f self.now.half)) d }
+    {
+        let t = v * self.scale + self.half;
+        let mut r = xs[0];
+        for k in 1..M {
+            r = pick(t >= k as f32, xs[k], r);
+        }
+        r
+    }
 
-// The floor of t, held to 0 .. 3. A NaN gives 0.
-fn floor4(t: f32) -> u32
-    ensures { result ≡ held_to 3 t }
-{
-    let lo = pick_index(t >= 1.0, 1, 0);
-    let hi = pick_index(t >= 3.0, 3, 2);
-    pick_index(t >= 2.0, hi, lo)
-}
+    // The level nearest to a part v.
+    fn level(&self, v: f32) -> f32
+        ensures { result ≡ slice_index_or self.now.levels (held_to (M - 1) (v *f self.now.scale +f self.now.half)) nan }
+    {
+        self.at(v, &self.levels)
+    }
 
-// The same, to 0 .. 7.
-fn floor8(t: f32) -> u32
-    ensures { result ≡ held_to 7 t }
-{
-    let q0 = pick_index(t >= 1.0, 1, 0);
-    let q1 = pick_index(t >= 3.0, 3, 2);
-    let q2 = pick_index(t >= 5.0, 5, 4);
-    let q3 = pick_index(t >= 7.0, 7, 6);
-    let lo = pick_index(t >= 2.0, q1, q0);
-    let hi = pick_index(t >= 6.0, q3, q2);
-    pick_index(t >= 4.0, hi, lo)
+    // The point nearest to y, part by part.
+    fn point(&self, y: C32) -> C32
+        ensures { result ≡ complex
+            (slice_index_or self.now.levels (held_to (M - 1) (y.re *f self.now.scale +f self.now.half)) nan)
+            (slice_index_or self.now.levels (held_to (M - 1) (y.im *f self.now.scale +f self.now.half)) nan) }
+    {
+        C32 {
+            re: self.level(y.re),
+            im: self.level(y.im),
+        }
+    }
 }
 
 // The index of the level nearest to a part v: the floor of v * sqrt(E) / 2 + m / 2, held to 0 .. m - 1.
@@ -66,51 +91,8 @@ pub fn decide_level(q: Qam, v: f32) -> u32
     ensures { result ≡ level_of q v }
 {
     match q {
-        Qam::Qam16 => floor4(v * QAM16_HALF_SQRT_E + 2.0),
-        Qam::Qam64 => floor8(v * QAM64_HALF_SQRT_E + 4.0),
-    }
-}
-
-// The level itself, by comparisons that select it: no index, no branch.
-fn level4(v: f32) -> f32
-    ensures { result ≡ level_at qam.Qam16 v }
-{
-    let t = v * QAM16_HALF_SQRT_E + 2.0;
-    let lo = pick(t >= 1.0, QAM16_LEVELS[1], QAM16_LEVELS[0]);
-    let hi = pick(t >= 3.0, QAM16_LEVELS[3], QAM16_LEVELS[2]);
-    pick(t >= 2.0, hi, lo)
-}
-
-fn level8(v: f32) -> f32
-    ensures { result ≡ level_at qam.Qam64 v }
-{
-    let t = v * QAM64_HALF_SQRT_E + 4.0;
-    let q0 = pick(t >= 1.0, QAM64_LEVELS[1], QAM64_LEVELS[0]);
-    let q1 = pick(t >= 3.0, QAM64_LEVELS[3], QAM64_LEVELS[2]);
-    let q2 = pick(t >= 5.0, QAM64_LEVELS[5], QAM64_LEVELS[4]);
-    let q3 = pick(t >= 7.0, QAM64_LEVELS[7], QAM64_LEVELS[6]);
-    let lo = pick(t >= 2.0, q1, q0);
-    let hi = pick(t >= 6.0, q3, q2);
-    pick(t >= 4.0, hi, lo)
-}
-
-// The point of 16-QAM nearest to y, part by part.
-pub fn point16(y: C32) -> C32
-    ensures { result ≡ qam_point qam.Qam16 y }
-{
-    C32 {
-        re: level4(y.re),
-        im: level4(y.im),
-    }
-}
-
-// The point of 64-QAM nearest to y.
-pub fn point64(y: C32) -> C32
-    ensures { result ≡ qam_point qam.Qam64 y }
-{
-    C32 {
-        re: level8(y.re),
-        im: level8(y.im),
+        Qam::Qam16 => QAM16.at(v, &[0, 1, 2, 3]),
+        Qam::Qam64 => QAM64.at(v, &[0, 1, 2, 3, 4, 5, 6, 7]),
     }
 }
 
@@ -119,7 +101,7 @@ pub fn decide_qam(q: Qam, y: C32) -> C32
     ensures { result ≡ qam_point q y }
 {
     match q {
-        Qam::Qam16 => point16(y),
-        Qam::Qam64 => point64(y),
+        Qam::Qam16 => QAM16.point(y),
+        Qam::Qam64 => QAM64.point(y),
     }
 }
