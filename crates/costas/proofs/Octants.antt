@@ -1,12 +1,13 @@
 -- The octant by numbers from tests, and its point. Assumes nothing.
-use Prim.Native.Nat.{ℕ, zero, suc, ◌+◌, ◌*◌, ◌<◌}
+use Prim.Native.Nat.{ℕ, zero, suc, ◌+◌, ◌*◌, ◌<◌, ◌≤◌}
 use mathlib.Core.Path.{◌≡◌, refl, sym, subst}
 use mathlib.Core.Bool.{Bool, true, false, cond, not, ◌&&◌, ◌||◌}
 use mathlib.Core.List.{List, [], ◌∷◌}
 use native.Mathlib.Omega.{arith}
 use native.Mathlib.Nat.{zero-mul}
 use lib.ListN.{get_or}
-use lib.Dec.{lit<}
+use lib.Dec.{lit≤}
+use mir.Val.{bool_byte as from_bool}
 use borrow.Author.Tests.{lt-ltb, le-ltb, ne_eqb}
 use lib.Ieee.{Float, nan, inf, fin, of_bits, of_fields, odd, up, down, neg, lt, le, eq, below, level}
 use Rattle.types.specs.declared.C32.{C32}
@@ -48,15 +49,23 @@ signs (fin s m e) = signs_of s (m * up e * 1) (0 * 1 * down e) (zero-mul (down e
 abbrev pub second : Bool → Bool → Bool → Bool → Bool → Bool → Bool
 second q1 q2 q3 q4 wide tall = ((q1 || q3) && not wide) || ((q2 || q4) && not tall)
 
-abbrev one : Bool → ℕ
-one b = cond b 1 0
+one_le : (b : Bool) → from_bool b ≤ 1
+one_le true = lit≤ tt
+one_le false = lit≤ tt
+
+few : (i j k : ℕ) → i ≤ 1 → j ≤ 1 → k ≤ 1 → i + 2 * j + 4 * k < 8
+few i j k a b c = omega arith
+
+-- three numbers from tests
+pub below_eight : (p q r : Bool) (i j k : ℕ) → i ≡ from_bool p → j ≡ from_bool q → k ≡ from_bool r → i + 2 * j + 4 * k < 8
+below_eight p q r i j k a b c = rw (a, b, c) (few _ _ _ (one_le p) (one_le q) (one_le r))
 
 -- the number by the quadrants' tests, and the halves'
 abbrev number : Bool → Bool → Bool → Bool → Bool → Bool → ℕ
 number q1 q2 q3 q4 wide tall = cond q1 (cond wide 0 1) (cond q2 (cond tall 2 3) (cond q3 (cond wide 4 5) (cond q4 (cond tall 6 7) 0)))
 
 abbrev Sum : Bool → Bool → Bool → Bool → Bool → Bool → Type 0
-Sum q1 q2 q3 q4 wide tall = one (second q1 q2 q3 q4 wide tall) + 2 * one (q2 || q4) + 4 * one (q3 || q4) ≡ number q1 q2 q3 q4 wide tall
+Sum q1 q2 q3 q4 wide tall = from_bool (second q1 q2 q3 q4 wide tall) + 2 * from_bool (q2 || q4) + 4 * from_bool (q3 || q4) ≡ number q1 q2 q3 q4 wide tall
 
 -- p: re > 0, re >= 0, re < 0, re <= 0; i: the same of im
 sum_is : {p0 p1 p2 p3 i0 i1 i2 i3 : Bool} → Signs p0 p1 p2 p3 → Signs i0 i1 i2 i3 → (wide tall : Bool) → Sum (p0 && i1) (p3 && i0) (p2 && i3) (p1 && i2) wide tall
@@ -95,7 +104,7 @@ module _ (y : C32) where
   abbrev q4 : Bool
   q4 = le zero32 y.re && lt y.im zero32
 
-  pub octant-is : (a b : Float) (i j k : ℕ) → a ≡ size y.re → b ≡ size y.im → i ≡ cond (second q1 q2 q3 q4 (lt b a) (lt a b)) 1 0 → j ≡ cond (q2 || q4) 1 0 → k ≡ cond (q3 || q4) 1 0
+  pub octant-is : (a b : Float) (i j k : ℕ) → a ≡ size y.re → b ≡ size y.im → i ≡ from_bool (second q1 q2 q3 q4 (lt b a) (lt a b)) → j ≡ from_bool (q2 || q4) → k ≡ from_bool (q3 || q4)
       → i + 2 * j + 4 * k ≡ octant y
   unfolding octant
   octant-is a b i j k p q s t u =
@@ -119,15 +128,11 @@ module _ (P : ℕ → Type 0) (a0 : P 0) (a1 : P 1) (a2 : P 2) (a3 : P 3) (a4 : 
   unfolding octant
   at-octant y = each (q1 y) (q2 y) (q3 y) (q4 y) (lt (abs y.im) (abs y.re)) (lt (abs y.re) (abs y.im))
 
-pub octant_in : (y : C32) (k : ℕ) → k ≡ octant y → k < 8
-octant_in y k e = subst (λ (n : ℕ). n < 8) (sym e) (at-octant (λ n. n < 8) (lit< tt) (lit< tt) (lit< tt) (lit< tt) (lit< tt) (lit< tt) (lit< tt) (lit< tt) y)
+abbrev pub points : List C32
+points =
+    complex (f32 0x3f6c_835e) (f32 0x3ec3_ef15) ∷ complex (f32 0x3ec3_ef15) (f32 0x3f6c_835e) ∷ complex (f32 0xbec3_ef15) (f32 0x3f6c_835e) ∷ complex (f32 0xbf6c_835e) (f32 0x3ec3_ef15)
+    ∷ complex (f32 0xbf6c_835e) (f32 0xbec3_ef15) ∷ complex (f32 0xbec3_ef15) (f32 0xbf6c_835e) ∷ complex (f32 0x3ec3_ef15) (f32 0xbf6c_835e) ∷ complex (f32 0x3f6c_835e) (f32 0xbec3_ef15) ∷ []
 
-abbrev re8 : List Float
-re8 = f32 0x3f6c_835e ∷ f32 0x3ec3_ef15 ∷ f32 0xbec3_ef15 ∷ f32 0xbf6c_835e ∷ f32 0xbf6c_835e ∷ f32 0xbec3_ef15 ∷ f32 0x3ec3_ef15 ∷ f32 0x3f6c_835e ∷ []
-
-abbrev im8 : List Float
-im8 = f32 0x3ec3_ef15 ∷ f32 0x3f6c_835e ∷ f32 0x3f6c_835e ∷ f32 0x3ec3_ef15 ∷ f32 0xbec3_ef15 ∷ f32 0xbf6c_835e ∷ f32 0xbf6c_835e ∷ f32 0xbec3_ef15 ∷ []
-
-pub point_is : (y : C32) (k : ℕ) → k ≡ octant y → complex (get_or re8 k nan) (get_or im8 k nan) ≡ octant_point y
+pub point_is : (y : C32) (k : ℕ) (d : C32) → k ≡ octant y → get_or points k d ≡ octant_point y
 unfolding octant_point points8 of_bits of_fields odd neg
-point_is y k e = rw e (at-octant (λ n. complex (get_or re8 n nan) (get_or im8 n nan) ≡ get_or points8 n zero_c) refl refl refl refl refl refl refl refl y)
+point_is y k d e = rw e (at-octant (λ n. get_or points n d ≡ get_or points8 n zero_c) refl refl refl refl refl refl refl refl y)

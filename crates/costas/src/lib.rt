@@ -1,7 +1,7 @@
 // The pieces of the carrier loop: gains, turns, the 8-PSK decision and the integrator.
 #![tactic(auto)]
 
-ghost use Rattle.std.specs.Prelude.{◌≡◌, cond, ◌≤◌};
+ghost use Rattle.std.specs.Prelude.{◌≡◌, ◌<◌, cond};
 ghost use Rattle.std.specs.Float.Ieee.{lt, neg};
 ghost use Rattle.types.specs.Bits.{zero32};
 ghost use Rattle.definition.specs.Floats.{flush, clip};
@@ -50,22 +50,17 @@ pub fn rotate(v: C32, t: CosSin) -> C32
     }
 }
 
-// |v|, but -0 stays.
+// |v|, but -0 stays. With `f32::abs`, which tests for 0 too, `integrate` took 7.5 ns and not 6.9 where it is held, 1.5 and not 1.3 where it is not.
 fn size(v: f32) -> f32
     ensures { result ≡ cond (lt v zero32) (neg v) v }
 {
     if v < 0.0 { -v } else { v }
 }
 
-fn one(b: bool) -> usize
-    ensures { (result ≡ cond b 1 0) × (result ≤ 1) }
-{
-    if b { 1 } else { 0 }
-}
-
 // The number of the half-open octant, counter-clockwise: the quadrant by the signs, its half by the larger part. No branch.
 fn octant(y: C32) -> usize
-    ensures { result ≡ octantDef y }
+    ensures value { result ≡ octantDef y }
+    ensures below { result < 8 }
 {
     let a = size(y.re);
     let b = size(y.im);
@@ -74,41 +69,50 @@ fn octant(y: C32) -> usize
     let q3 = (y.re < 0.0) & (y.im <= 0.0);
     let q4 = (y.re >= 0.0) & (y.im < 0.0);
     let second = ((q1 | q3) & !(a > b)) | ((q2 | q4) & !(b > a));
-    one(second) + 2 * one(q2 | q4) + 4 * one(q3 | q4)
+    usize::from(second) + 2 * usize::from(q2 | q4) + 4 * usize::from(q3 | q4)
 }
 
 // The 8-PSK points, counter-clockwise from 1/16 turn.
-const POINTS8_RE: [f32; 8] = [
-    0.9238795,
-    0.38268343,
-    -0.38268343,
-    -0.9238795,
-    -0.9238795,
-    -0.38268343,
-    0.38268343,
-    0.9238795,
-];
-
-const POINTS8_IM: [f32; 8] = [
-    0.38268343,
-    0.9238795,
-    0.9238795,
-    0.38268343,
-    -0.38268343,
-    -0.9238795,
-    -0.9238795,
-    -0.38268343,
+const POINTS8: [C32; 8] = [
+    C32 {
+        re: 0.9238795,
+        im: 0.38268343,
+    },
+    C32 {
+        re: 0.38268343,
+        im: 0.9238795,
+    },
+    C32 {
+        re: -0.38268343,
+        im: 0.9238795,
+    },
+    C32 {
+        re: -0.9238795,
+        im: 0.38268343,
+    },
+    C32 {
+        re: -0.9238795,
+        im: -0.38268343,
+    },
+    C32 {
+        re: -0.38268343,
+        im: -0.9238795,
+    },
+    C32 {
+        re: 0.38268343,
+        im: -0.9238795,
+    },
+    C32 {
+        re: 0.9238795,
+        im: -0.38268343,
+    },
 ];
 
 // The 8-PSK point of y's half-open octant; zero and a NaN give point 0.
 pub fn octant_point(y: C32) -> C32
     ensures { result ≡ octant_point y }
 {
-    let k = octant(y);
-    C32 {
-        re: POINTS8_RE[k],
-        im: POINTS8_IM[k],
-    }
+    POINTS8[octant(y)]
 }
 
 // The integrator: flushed, and held to -limit .. limit. In a running loop t is neither tiny nor past the limit: one test.
