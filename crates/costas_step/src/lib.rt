@@ -27,10 +27,10 @@ fn magnitude(exp: u32, sig: u32, n: u32) -> u32
 pub fn phase_step_f32(v: f32) -> u32
     ensures { result ≡ phase_step v }
 {
-    if v != v {
+    if v.is_nan() {
         return 0;
     }
-    let bits = f32::to_bits(v);
+    let bits = v.to_bits();
     let exp = (bits >> 23) & 0xff;
     let sig = (bits & 0x7f_ffff) | 0x80_0000;
     let n = bits >> 31;
@@ -44,9 +44,5 @@ pub fn phase_step_f32(v: f32) -> u32
         return 0;
     }
     let m = magnitude(exp, sig, n);
-    if n == 0 {
-        m
-    } else {
-        std::num::wrapping_sub_u32(0, m)
-    }
+    if n == 0 { m } else { m.wrapping_neg() }
 }

@@ -1,6 +1,6 @@
 -- What the code's shifts and masks work out. Assumes nothing.
-use mathlib.Core.Path.{◌≡◌, sym, ap, ◌∙◌, subst}
-use mathlib.Core.Bool.{Bool, not, cond}
+use mathlib.Core.Path.{◌≡◌, refl, sym, ap, ◌∙◌, subst}
+use mathlib.Core.Bool.{Bool, true, false, not, cond}
 use Prim.Native.Nat.{ℕ, suc, ◌+◌, ◌-◌, ◌*◌, ◌/◌, ◌%◌, ◌^◌, ◌≤◌, ◌<◌}
 use native.Mathlib.Nat.{le_trans, le_of_eq, le_antisymm, lt_of_lt_of_le, one-mul, mod-eq_of_lt, pow-succ', zero-add}
 use native.Mathlib.Numerals.{add-one}
@@ -9,7 +9,7 @@ use lib.Dec.{T, leb}
 use lib.Pow.{pow_pos, pow_mono, pow-lt, shr_lt}
 use lib.Bits.{bit_and, bit_or, and_mask, and_le_l, or_shifted_r}
 use borrow.Author.Tests.{le-leb, lt-leb, le-ltb}
-use lib.Ieee.{Float, nan, binary32, nan_bits, of_bits, div}
+use lib.Ieee.{Float, nan, inf, fin, binary32, nan_bits, is_nan, of_bits}
 use lib.Ieee.Bits.{nan_bits_above}
 use lib.Ieee.Nearest.{closest}
 use Rattle.laws.specs.Half.{closest-down, closest-up, closest-tie}
@@ -102,9 +102,14 @@ module _ (p : ℕ) (P : p ≤ 0x7f80_0000) where
   signed_is b h = ap (of_bits binary32) (or_is ∙ sym (ap (λ (t : Bool). cond t (2 ^ 31) 0 + p) (le-leb (2 ^ 63) b h)))
 
 -- ---- `narrow`
-pub of_nan : (x : Float) → x ≡ nan → div binary32 (of_bits binary32 0) (of_bits binary32 0) ≡ narrow x
-unfolding narrow div of_bits
-of_nan x h = sym (ap narrow h)
+pub of_nan : (x : Float) (b : Bool) → b ≡ is_nan x → b ≡ true → of_bits binary32 0x7fc0_0000 ≡ narrow x
+unfolding narrow of_bits is_nan
+of_nan nan b e h = refl
+of_nan (inf s) b e h = absurd (subst T (sym h ∙ e) tt)
+of_nan (fin s m k) b e h = absurd (subst T (sym h ∙ e) tt)
+
+pub no_nan_in : (x : Float) (b : Bool) → b ≡ is_nan x → b ≡ false → T (not (is_nan x))
+no_nan_in x b e h = subst (λ (t : Bool). T (not t)) (sym h ∙ e) tt
 
 module _ (x q : ℕ) (X : x < 1151) (Q : q ≤ 2 ^ 24) where
   pub shift_is : (x - 897) * 2 ^ 23 % 2 ^ 64 ≡ (x - 897) * 2 ^ 23

