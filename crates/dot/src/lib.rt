@@ -79,9 +79,9 @@ fn rest<P: Part>(a: &mut [f32; 8], t: Taps, i: usize, m: usize)
     requires { (m ≤ 8) × (i + m ≤ t.n) }
     ensures { Added (product_at P.product t.entry.x.now t.entry.w.now) i m a.old a.new }
 {
-    for (k, s) in a.iter_mut().enumerate() {
+    for k in 0..8 {
         if k < m {
-            *s += product_at::<P>(t, i + k);
+            a[k] += product_at::<P>(t, i + k);
         }
     }
 }
