@@ -1,52 +1,17 @@
 -- The arrays back into the slices: they get what the arrays hold. Assumes nothing.
 use Prim.Native.Nat.{ℕ, ◌+◌, ◌-◌, ◌*◌, ◌/◌, ◌%◌, ◌<◌}
-use mathlib.Core.Path.{◌≡◌, refl, sym, ◌∙◌}
+use mathlib.Core.Path.{◌≡◌, sym, ◌∙◌}
 use mathlib.Core.List.{List}
 use native.Mathlib.Omega.{arith}
 use native.Mathlib.Decide.{ℕ_discrete, dec_lt}
-use lib.ListN.{length, get_or, set, length-set}
-use lib.Seq.{get_or-set_same, get_or-set_other, ext_get_or}
+use lib.ListN.{length, get_or}
+use lib.Seq.{ext_get_or}
 use lib.Ieee.{Float, nan}
 use Rattle.definition.specs.Slices.{re_at, im_at}
 use Rattle.lanes_load.specs.Load.{Joined}
 use Rattle.lanes.specs.Holds.{Lies, Holds}
 use Rattle.definition.specs.Sample.{Equalizer}
 use Rattle.lanes.specs.Arrays.{Arrays}
-
-pub joined_none : (re im : List Float) (at from : ℕ) (x : List Float) → Joined re im at from 0 x x
-joined_none re im at from x = record { long = refl; re_is = λ j h. absurd (omega arith); im_is = λ j h. absurd (omega arith); low = λ k h. refl; high = λ k h. refl }
-
-module _ (re im : List Float) (at from i : ℕ) (old x : List Float) (s : Joined re im at from i old x) (room : 2 * (from + i) + 1 < length x) where
-  two : (k : ℕ) (a b : Float) → (k ≡ 2 * (from + i) → ⊥) → (k ≡ 2 * (from + i) + 1 → ⊥)
-      → get_or (set (set x (2 * (from + i)) a) (2 * (from + i) + 1) b) k nan ≡ get_or x k nan
-  two k a b p q = get_or-set_other (set x (2 * (from + i)) a) (2 * (from + i) + 1) k b nan q ∙ get_or-set_other x (2 * (from + i)) k a nan p
-
-  stored-re : (a b : Float) → get_or (set (set x (2 * (from + i)) a) (2 * (from + i) + 1) b) (2 * (from + i)) nan ≡ a
-  stored-re a b =
-      get_or-set_other (set x (2 * (from + i)) a) (2 * (from + i) + 1) (2 * (from + i)) b nan (λ (e : 2 * (from + i) ≡ 2 * (from + i) + 1). omega arith)
-      ∙ get_or-set_same x (2 * (from + i)) a nan (omega arith)
-
-  stored-im : (a b : Float) → get_or (set (set x (2 * (from + i)) a) (2 * (from + i) + 1) b) (2 * (from + i) + 1) nan ≡ b
-  stored-im a b = get_or-set_same (set x (2 * (from + i)) a) (2 * (from + i) + 1) b nan (simp length-set room)
-
-  at-re : (j : ℕ) → j < i + 1 → Dec (j ≡ i)
-      → re_at (set (set x (2 * (from + i)) (get_or re (at + i) nan)) (2 * (from + i) + 1) (get_or im (at + i) nan)) (from + j) ≡ get_or re (at + j) nan
-  at-re j l (yes e) = rw e (stored-re _ _)
-  at-re j l (no d) = two (2 * (from + j)) _ _ (λ (e : 2 * (from + j) ≡ 2 * (from + i)). d (omega arith)) (λ (e : 2 * (from + j) ≡ 2 * (from + i) + 1). omega arith) ∙ s.re_is j (omega arith)
-
-  at-im : (j : ℕ) → j < i + 1 → Dec (j ≡ i)
-      → im_at (set (set x (2 * (from + i)) (get_or re (at + i) nan)) (2 * (from + i) + 1) (get_or im (at + i) nan)) (from + j) ≡ get_or im (at + j) nan
-  at-im j l (yes e) = rw e (stored-im _ _)
-  at-im j l (no d) = two (2 * (from + j) + 1) _ _ (λ (e : 2 * (from + j) + 1 ≡ 2 * (from + i)). omega arith) (λ (e : 2 * (from + j) + 1 ≡ 2 * (from + i) + 1). d (omega arith)) ∙ s.im_is j (omega arith)
-
-  pub joined-more : Joined re im at from (i + 1) old (set (set x (2 * (from + i)) (get_or re (at + i) nan)) (2 * (from + i) + 1) (get_or im (at + i) nan))
-  joined-more = record {
-    long = simp length-set s.long;
-    re_is = λ j l. at-re j l (ℕ_discrete j i);
-    im_is = λ j l. at-im j l (ℕ_discrete j i);
-    low = λ k l. two k _ _ (λ (e : k ≡ 2 * (from + i)). omega arith) (λ (e : k ≡ 2 * (from + i) + 1). omega arith) ∙ s.low k l;
-    high = λ k l. two k _ _ (λ (e : k ≡ 2 * (from + i)). omega arith) (λ (e : k ≡ 2 * (from + i) + 1). omega arith) ∙ s.high k (omega arith);
-  }
 
 -- both halves stored: the slice is the list that the lanes hold
 both_at : (n m a b : ℕ) (re im w old mid x : List Float) → Lies re im a w 0 n → Lies re im b w n m → length w ≡ 2 * (n + m) → length old ≡ 2 * (n + m)

@@ -2,19 +2,15 @@
 use Prim.Native.Nat.{ℕ, ◌+◌, ◌-◌, ◌<◌, ◌≤◌, min}
 use mathlib.Core.Path.{◌≡◌, refl, sym, ◌∙◌}
 use mathlib.Core.Bool.{Bool, true, false, cond}
-use mathlib.Core.List.{List}
 use native.Mathlib.Omega.{arith}
 use native.Mathlib.Decide.{ℕ_discrete, dec_lt}
 use borrow.Author.Tests.{eq-eqb, ne_eqb, le-ltb, lt-ltb}
-use lib.ListN.{get_or}
 use lib.Dec.{eqb}
-use lib.Ieee.{Float, nan}
 use Rattle.types.specs.declared.EqMode.{EqMode}
 use Rattle.types.specs.declared.EqMode.TheVariants.{Cma, Decision}
 use Rattle.types.specs.declared.EqualizeState.{EqualizeState}
-use Rattle.definition.specs.Sample.{never_switch, step_size, advance, advance_in}
-use Rattle.lanes.specs.Between.{Between}
-use Rattle.lanes_prepare.specs.Clock.{left_in, cma_left, StepSizes, Clock}
+use Rattle.definition.specs.Sample.{never_switch, advance, advance_in}
+use Rattle.lanes_prepare.specs.Clock.{left_in, cma_left, Clock}
 
 module _ (m : EqMode) (total count : ℕ) where
   pub left-decision : m ≡ Decision → 0 ≡ left_in m total count
@@ -33,16 +29,6 @@ left_most Cma total count = go (eqb total never_switch)
     go : (b : Bool) → cond b 64 (min 64 (total - count)) ≤ 64
     go true = omega arith
     go false = omega arith
-
-pub step_sizes : (s : EqualizeState) (power steps mid new : List Float) (from low left : ℕ) → left ≡ cma_left s → low ≤ from → low ≤ 64 - left
-    → Between (λ i. step_size s.params.mu_dd (get_or power i nan)) low (64 - left) steps mid
-    → Between (λ i. step_size s.params.mu_cma (get_or power i nan)) (64 - left) 64 mid new → StepSizes s power from new
-step_sizes s power steps mid new from low left e l l' a b =
-    let top = left_most s.mode s.params.cma_symbols s.count in
-    record {
-      cma = λ j f h g. b.done j (omega arith) h;
-      decided = λ j f h g. b.low j (omega arith) ∙ a.done j (omega arith) (omega arith);
-    }
 
 -- ---- the modes of a run
 left_cma : (s : EqualizeState) → (s.params.cma_symbols ≡ never_switch → ⊥) → s.mode ≡ Cma → cma_left s ≡ min 64 (s.params.cma_symbols - s.count)

@@ -1,5 +1,5 @@
 -- The samples of a run go into the window. Assumes nothing.
-use Prim.Native.Nat.{ℕ, ◌+◌, ◌-◌, ◌/◌, ◌<◌}
+use Prim.Native.Nat.{ℕ, ◌+◌, ◌-◌, ◌<◌}
 use mathlib.Core.Path.{◌≡◌, ◌∙◌}
 use mathlib.Core.Bool.{Bool, ◌&&◌}
 use mathlib.Core.List.{List}
@@ -9,7 +9,7 @@ use lib.Ieee.{Float}
 use lib.Ieee.Scale.{finite}
 use Rattle.definition.specs.Slices.{re_at, im_at}
 use Rattle.lanes.specs.Between.{Between}
-use Rattle.lanes_prepare.specs.Entered.{Entered, entered_re, entered_im, held_of}
+use Rattle.lanes_prepare.specs.Entered.{entered_re, entered_im, held_of}
 use Rattle.lanes.proofs.Between.{between_none, between_down}
 
 pub record Entry (x xr₀ xi₀ : List Float) (k : ℕ) (xr xi : List Float) : Type 0 where
@@ -33,6 +33,3 @@ entry_more x xr₀ xi₀ k xr xi fa fb a b s h lr li ea eb va vb =
       re = rw e (between_down _ _ _ a ra (omega arith) (omega (arith, lr)) (rw f at s.re));
       im = rw e (between_down _ _ _ b rb (omega arith) (omega (arith, li)) (rw f at s.im));
     }
-
-pub entry_all : (x xr₀ xi₀ : List Float) (k : ℕ) (xr xi : List Float) → Entry x xr₀ xi₀ k xr xi → k ≡ length x / 2 → Entered x xr₀ xi₀ xr xi
-entry_all x xr₀ xi₀ k xr xi s h = record { re = rw h at s.re; im = rw h at s.im }

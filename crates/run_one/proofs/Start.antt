@@ -37,24 +37,9 @@ prepared s n from xs xr xi xr' xi' q₀ q p₀ ps ss l e b p z = record {
   sizes = sized_from s ps ss from (64 - length xs / 2) l z;
 }
 
--- ---- `run`
-pub prepare_fits : (xs : List Float) (i e k n : ℕ) → i ≤ e → e ≤ i + 64 → e ≤ k → length xs ≡ 2 * k → n ≤ 63 → (length (mid_of (2 * i) (2 * e - 2 * i) xs) ≤ 128) × (n ≤ 63)
-prepare_fits xs i e k n a b l input h =
-    let p : length (mid_of (2 * i) (2 * e - 2 * i) xs) ≡ 2 * e - 2 * i = mid_len (2 * i) (2 * e) xs (omega arith) in
-    (omega (arith, p, a, b), h)
-
 module _ (xs ys : List Float) (ms : List ℕ) (i e : ℕ) (a : i ≤ e) (b : e ≤ i + 64) (l : e ≤ length ms) (input : length xs ≡ 2 * length ms) where
   part_xs : length (mid_of (2 * i) (2 * e - 2 * i) xs) ≡ 2 * e - 2 * i
   part_xs = mid_len (2 * i) (2 * e) xs (omega arith)
-
-  part-ms : length (mid_of i (e - i) ms) ≡ e - i
-  part-ms = mid_len i e ms l
-
-  pub run_fits : length ys ≡ 2 * length ms → (length (mid_of i (e - i) ms) ≤ 64)
-      × ((length (mid_of (2 * i) (2 * e - 2 * i) xs) ≡ 2 * length (mid_of i (e - i) ms)) × (length (mid_of (2 * i) (2 * e - 2 * i) ys) ≡ 2 * length (mid_of i (e - i) ms)))
-  run_fits output =
-      let y : length (mid_of (2 * i) (2 * e - 2 * i) ys) ≡ 2 * e - 2 * i = mid_len (2 * i) (2 * e) ys (omega arith) in
-      (omega (arith, part-ms, a, b), (omega (arith, part-ms, part_xs, a, b), omega (arith, part-ms, y, a, b)))
 
 module _ (s : EqualizeState) (g : Shape) (n : ℕ) (limit wr wi xr xi sq xr1 xi1 sq1 ps ss xs : List Float) (a' : Arrays) (ypart : List Float) (mpart : List ℕ) (r : EqualizeState)
     (begin : Prepared s n xs xr xi sq xr1 xi1 sq1 ps ss) (runs : Runs s g limit (arrays wr wi xr1 xi1 sq1) ps ss xs a' ypart mpart r) where

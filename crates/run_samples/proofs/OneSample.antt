@@ -33,7 +33,6 @@ use Rattle.lanes_sample.specs.Measures.{Measures}
 use Rattle.lanes.specs.Adapts.{Adapts}
 use Rattle.lanes_sample.proofs.Sample.{absorbed, measure_is, sample_by, sample_by_lem, sample_holds}
 use Rattle.steps.specs.declared.Track.{Track}
-use Rattle.steps.specs.declared.Stepped.{Stepped}
 use Rattle.lanes.specs.declared.Shape.{Shape}
 use Rattle.steps.specs.declared.Stage.{Stage}
 use Rattle.steps.specs.Step.{track_of, update_if, step_at, step_with, step_of, with_track, heard_of, unheard_of, stage, did}
@@ -44,14 +43,6 @@ step_heard : (s : EqualizeState) (w h : List Float) (n f : ℕ) (y : C32) (F siz
     → stage s (heard_of (step_of s y F size)) (adapted (step_of s y F size).update n f w h) ≡ heard_as s w n f h (hear s n f h y)
 unfolding step_of step_with step_at track_of update_if heard_as hear tracked update_of
 step_heard s w h n f y F size a b = rw (a, b)
-
--- ---- `hear`
-pub heard_exit : (r k : Stepped) (t : Stage) → r ≡ k → t ≡ heard_of r → t ≡ heard_of k
-heard_exit r k t e d = d ∙ ap heard_of e
-
-pub adapts_exit : (r k : Stepped) (wr wi limit xr xi : List Float) (at quads bt mquads centre : ℕ) (wr' wi' : List Float) → r ≡ k
-    → Adapts r.update wr wi limit xr xi at quads bt mquads centre wr' wi' → Adapts k.update wr wi limit xr xi at quads bt mquads centre wr' wi'
-adapts_exit r k wr wi limit xr xi at quads bt mquads centre wr' wi' e d = subst (λ (z : Stepped). Adapts z.update wr wi limit xr xi at quads bt mquads centre wr' wi') e d
 
 -- ---- `take`
 module _ (s : EqualizeState) (w h : List Float) (n m : ℕ) (x y : C32) (e : y ≡ step2 (n + m) w (step1 n x h)) where
