@@ -25,7 +25,8 @@ fn apart(r: f32, m: f32) -> bool
     (r - r) != (m - m)
 }
 
-// A step of the lanes from `from` on, whose window begins at `at`; whether some lane is not finite.
+// A step of the lanes from `from` on, whose window begins at `at`; whether some lane is not finite. By an index: five arrays at two offsets.
+// The parts of g·conj(h) stand as they are: `dot::Part` would have them with the names and places swapped. No `any` for the flag: it leaves early.
 fn update_half(
     w: &mut Weights,
     limit: &[f32; 144],

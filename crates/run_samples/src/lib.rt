@@ -110,7 +110,7 @@ fn sample(
     }
 }
 
-// The samples of a run, at most 64, which stand in the forward window: the first at 63.
+// The samples of a run, at most 64, which stand in the forward window: the first at 63. By an index: it is the sample's place in five arrays.
 pub fn run(
     state: EqualizeState,
     call: &Call,
