@@ -66,13 +66,7 @@ fn feed(h: &mut [f32], taps: Taps, v: C32)
 }
 
 // Steps 1 to 8.
-fn sample_sized(
-    s: EqualizeState,
-    w: &mut [f32],
-    h: &mut [f32],
-    x: C32,
-    taps: Taps,
-) -> Sampled
+fn sample_sized(s: EqualizeState, w: &mut [f32], h: &mut [f32], x: C32, taps: Taps) -> Sampled
     requires beside { Beside s w.old h.old taps }
     requires s_value { rule_r4 s ≡ true }
     ensures { did result w.new h.new ≡ sample_def (equalizer s w.old h.old) x }

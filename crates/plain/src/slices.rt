@@ -1,4 +1,5 @@
-// Loops over the weights and the window: complex number i has its real part at 2 i and its imaginary part at 2 i + 1.
+// Loops over the weights and the window: complex number i has its real part at 2 i and its imaginary part at 2 i + 1. An index reads and writes them: the
+// library has no chunks_exact_mut, and `at` and `put` say which number it is.
 ghost use Rattle.std.specs.Prelude.{◌≡◌, ◌+◌, ◌*◌, ◌<◌, ◌≤◌, length, slice_set};
 ghost use Rattle.definition.specs.Floats.{◌+f◌, ◌-f◌, ◌*f◌, flush, norm as normDef};
 ghost use Rattle.definition.specs.Slices.{re_at, im_at, shifted, power as powerDef, updated};

@@ -88,8 +88,7 @@ pub fn forward(n: usize, m: usize) -> usize
 pub fn rule_r1(s: EqualizeState, w: &[f32], h: &[f32]) -> bool
     ensures { result ≡ rule_r1 (equalizer s w.now h.now) }
 {
-    let p = s.params;
-    let m = p.feedback_taps;
+    let m = s.params.feedback_taps;
     let n = w.len() / 2;
     feedback_fits(m) & taps_fit(forward(n, m)) & (n == h.len() / 2)
 }
