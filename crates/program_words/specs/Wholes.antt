@@ -1,7 +1,5 @@
 -- Whole numbers in a text.
-use Rattle.std.specs.Prelude.{◌≡◌, ℕ, suc, ◌+◌, ◌-◌, ◌*◌, min, Bool, cond, ◌&&◌, List, [], ◌∷◌, length, drop, ◌==◌, nat_le, nat_lt}
-use Rattle.program_words.specs.declared.numbers.Whole.{Whole}
-use Rattle.program_words.specs.declared.numbers.Whole.TheVariants.{Value, Unreadable}
+use Rattle.std.specs.Prelude.{◌≡◌, ℕ, suc, ◌+◌, ◌-◌, ◌*◌, min, Bool, cond, ◌&&◌, List, [], ◌∷◌, length, drop, ◌==◌, nat_le, nat_lt, Option, Some, None}
 
 -- From here on the digits are too many.
 abbrev pub too_long : ℕ
@@ -21,16 +19,16 @@ unfoldable pub digit_value : ℕ → List ℕ → ℕ
 digit_value v [] = v
 digit_value v (b ∷ t) = cond (is_digit b) (digit_value (v * 10 + (b - 48)) t) v
 
--- What digits_from answers: their value as far as it is below 10^15, how many there are, and the place past them.
+-- What digits_of answers: their value as far as it is below 10^15, how many there are, and the place past them.
 abbrev pub DigitsFrom : List ℕ → ℕ → ℕ → ℕ → ℕ → ℕ → Type 0
 DigitsFrom t from start value count at =
     (min value too_long ≡ min (digit_value start (drop from t)) too_long) × (count ≡ digit_count (drop from t)) × (at ≡ from + count)
 
--- The value of a text of digits and nothing else, at least one, if it is below 10^15 and at most `most`.
-unfoldable pub whole_of : List ℕ → ℕ → Whole
+-- The value of a text of digits and nothing else, at least one, if it is below 10^15 and at most `most`; none of any other text.
+unfoldable pub whole_of : List ℕ → ℕ → Option ℕ
 unfolding digit_count digit_value
 whole_of t most =
     cond
     (nat_lt 0 (digit_count t) && digit_count t == length t && nat_lt (digit_value 0 t) too_long && nat_le (digit_value 0 t) most)
-    (Value (digit_value 0 t))
-    Unreadable
+    (Some (digit_value 0 t))
+    None

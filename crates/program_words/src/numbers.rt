@@ -1,213 +1,117 @@
 // Numbers in options. A real number is an optional sign, digits with at most one point, and an optional exponent; at most 15 digits count, and
 // the point may be moved by at most 22 places. So the digits and the power of ten are exact in an f64, and the one product or quotient is the
 // f64 nearest to what was written. A setting that is an f32 is that f64 rounded again: the f32 nearest to what was written, for up to 12 decimals.
-ghost use Rattle.std.specs.Prelude.{◌≡◌, ◌+◌, ◌-◌, ◌*◌, ◌≤◌, min};
+ghost use Rattle.std.specs.Prelude.{◌≡◌, ◌+◌, ◌-◌, ◌*◌, min, drop};
 ghost use Rattle.program_words.specs.Wholes.{too_long, DigitsFrom, whole_of};
 
 // From here on the digits are too many.
 const TOO_LONG: u64 = 1_000_000_000_000_000;
-
-const MOST_PLACES: u64 = 22;
 
 const POWERS: [f64; 23] = [
     1e0, 1e1, 1e2, 1e3, 1e4, 1e5, 1e6, 1e7, 1e8, 1e9, 1e10, 1e11, 1e12, 1e13, 1e14, 1e15, 1e16,
     1e17, 1e18, 1e19, 1e20, 1e21, 1e22,
 ];
 
+// Digits: their value behind what came before, how many there are, and what stands behind them.
 #[derive(Clone, Copy)]
-pub enum Real {
-    Value(f64),
-    Unreadable,
-}
-
-#[derive(Clone, Copy)]
-pub enum Whole {
-    Value(u64),
-    Unreadable,
-}
-
-// Digits: their value behind what came before, how many there are, and the place past them.
-#[derive(Clone, Copy)]
-struct Digits {
+struct Digits<'a> {
     value: u64,
     count: usize,
-    at: usize,
+    rest: &'a [u8],
 }
 
 fn with_digit(value: u64, b: u8) -> u64
-    requires { (48 ≤ b) × (b ≤ 57) }
     ensures { min result too_long ≡ min (value * 10 + (b - 48)) too_long }
 {
     if value < TOO_LONG {
-        value * 10 + (b - b'0') as u64
+        value * 10 + u64::from(b.saturating_sub(b'0'))
     } else {
         value
     }
 }
 
-fn digits_from(t: &[u8], from: usize, start: u64) -> Digits
-    ensures { DigitsFrom t.now from start result.value result.count result.at }
+// The digits that a text starts with.
+fn digits_of(t: &[u8], start: u64) -> Digits<'_>
+    ensures digits { DigitsFrom t.now 0 start result.value result.count result.count }
+    ensures rest { result.rest.now ≡ drop result.count t.now }
 {
     let mut value = start;
-    let mut count = 0usize;
-    let mut at = from;
-    while at < t.len() {
-        let b = t[at];
-        if b < b'0' {
-            return Digits { value, count, at };
+    for (count, b) in t.iter().enumerate() {
+        if !b.is_ascii_digit() {
+            return Digits {
+                value,
+                count,
+                rest: &t[count..],
+            };
         }
-        if b > b'9' {
-            return Digits { value, count, at };
-        }
-        value = with_digit(value, b);
-        count += 1;
-        at += 1;
+        value = with_digit(value, *b);
     }
-    Digits { value, count, at }
+    Digits {
+        value,
+        count: t.len(),
+        rest: &[],
+    }
 }
 
 // A whole number up to `most` and below 10^15.
-pub fn whole_of(t: &[u8], most: u64) -> Whole
+pub fn whole_of(t: &[u8], most: u64) -> Option<u64>
     ensures { result ≡ whole_of t.now most }
 {
-    let d = digits_from(t, 0, 0);
-    if d.count == 0 {
-        return Whole::Unreadable;
-    }
-    if d.at != t.len() {
-        return Whole::Unreadable;
-    }
-    if d.value >= TOO_LONG {
-        return Whole::Unreadable;
+    let d = digits_of(t, 0);
+    if d.count == 0 || d.count != t.len() || d.value >= TOO_LONG {
+        return None;
     }
     if d.value > most {
-        return Whole::Unreadable;
+        return None;
     }
-    Whole::Value(d.value)
+    Some(d.value)
 }
 
-// The digits before the exponent, and how many of them stand behind the point.
-#[derive(Clone, Copy)]
-struct Mantissa {
-    value: u64,
-    any: bool,
-    places: usize,
-    at: usize,
-}
-
-fn mantissa_from(t: &[u8], from: usize) -> Mantissa {
-    let front = digits_from(t, from, 0);
-    let at = front.at;
-    if at < t.len() {
-        if t[at] == b'.' {
-            let back = digits_from(t, at + 1, front.value);
-            return Mantissa {
-                value: back.value,
-                any: front.count > 0 || back.count > 0,
-                places: back.count,
-                at: back.at,
-            };
-        }
-    }
-    Mantissa {
-        value: front.value,
-        any: front.count > 0,
-        places: 0,
-        at,
+// Whether a minus stands in front, and what stands behind a sign.
+fn unsigned(t: &[u8]) -> (bool, &[u8]) {
+    match t {
+        [b'-', rest @ ..] => (true, rest),
+        [b'+', rest @ ..] => (false, rest),
+        _ => (false, t),
     }
 }
 
-fn is_minus(t: &[u8], at: usize) -> bool {
-    if at < t.len() { t[at] == b'-' } else { false }
+// The power of ten that an exponent stands for, which is all of the text; none is 0.
+fn exponent_of(t: &[u8]) -> Option<i64> {
+    let [b'e' | b'E', rest @ ..] = t else {
+        return t.is_empty().then_some(0);
+    };
+    let (minus, rest) = unsigned(rest);
+    let d = digits_of(rest, 0);
+    if d.count == 0 || !d.rest.is_empty() {
+        return None;
+    }
+    let e = i64::try_from(d.value).ok()?;
+    Some(if minus { -e } else { e })
 }
 
-fn past_sign(t: &[u8], at: usize) -> usize {
-    if at < t.len() {
-        if t[at] == b'-' || t[at] == b'+' {
-            return at + 1;
-        }
-    }
-    at
-}
-
-#[derive(Clone, Copy)]
-enum Exponent {
-    Up(u64),
-    Down(u64),
-    Unreadable,
-}
-
-// The exponent, from a place to the end of the text.
-fn exponent_from(t: &[u8], at: usize) -> Exponent {
-    if at >= t.len() {
-        return Exponent::Up(0);
-    }
-    if t[at] != b'e' && t[at] != b'E' {
-        return Exponent::Unreadable;
-    }
-    let d = digits_from(t, past_sign(t, at + 1), 0);
-    if d.count == 0 || d.at != t.len() {
-        return Exponent::Unreadable;
-    }
-    if is_minus(t, at + 1) {
-        Exponent::Down(d.value)
-    } else {
-        Exponent::Up(d.value)
-    }
-}
-
-// m * 10^up / 10^down, of which one is 10^0.
-fn scaled(m: u64, up: u64, down: u64) -> Real {
-    if up > MOST_PLACES {
-        return Real::Unreadable;
-    }
-    if down > MOST_PLACES {
-        return Real::Unreadable;
-    }
+// m * 10^power.
+fn scaled(m: u64, power: i64) -> Option<f64> {
+    let k = usize::try_from(power.unsigned_abs()).ok()?;
+    let tens = POWERS.get(k)?;
     let v = std::num::nearest_u64_to_f64(m);
-    Real::Value(v * POWERS[up as usize] / POWERS[down as usize])
+    Some(if power < 0 { v / *tens } else { v * *tens })
 }
 
-fn with_exponent(m: u64, places: u64, e: Exponent) -> Real {
-    match e {
-        Exponent::Up(u) => {
-            if places <= u {
-                scaled(m, u - places, 0)
-            } else {
-                scaled(m, 0, places - u)
-            }
+pub fn real_of(t: &[u8]) -> Option<f64> {
+    let (minus, t) = unsigned(t);
+    let front = digits_of(t, 0);
+    let (places, all) = match front.rest {
+        [b'.', rest @ ..] => {
+            let back = digits_of(rest, front.value);
+            (back.count, back)
         }
-        Exponent::Down(d) => {
-            if d > MOST_PLACES {
-                return Real::Unreadable;
-            }
-            if places > MOST_PLACES {
-                return Real::Unreadable;
-            }
-            scaled(m, 0, d + places)
-        }
-        Exponent::Unreadable => Real::Unreadable,
+        _ => (0, front),
+    };
+    if (front.count == 0 && places == 0) || all.value >= TOO_LONG {
+        return None;
     }
-}
-
-fn with_sign(r: Real, minus: bool) -> Real {
-    match r {
-        Real::Value(v) => {
-            if minus {
-                Real::Value(-v)
-            } else {
-                Real::Value(v)
-            }
-        }
-        Real::Unreadable => Real::Unreadable,
-    }
-}
-
-pub fn real_of(t: &[u8]) -> Real {
-    let m = mantissa_from(t, past_sign(t, 0));
-    if !m.any || m.value >= TOO_LONG {
-        return Real::Unreadable;
-    }
-    let e = exponent_from(t, m.at);
-    with_sign(with_exponent(m.value, m.places as u64, e), is_minus(t, 0))
+    let power = exponent_of(all.rest)?.saturating_sub(i64::try_from(places).ok()?);
+    let v = scaled(all.value, power)?;
+    Some(if minus { -v } else { v })
 }
