@@ -6,188 +6,169 @@ mod outputs;
 mod report;
 
 ghost use Rattle.std.specs.Prelude.{◌≤◌};
-ghost use Rattle.program.specs.Status.{ExitStatus};
 
-use crate::options::{Asked, Options};
-use crate::outputs::{Outputs, Ready};
+use crate::options::Options;
+use crate::outputs::Outputs;
 use equalizer_stream::Ways;
+use program::arguments::Name;
 use program::files::OpenInput;
-use program::{arguments, files};
+use program::messages::Part::Words;
+use program::messages::Program;
+use program::{Status, arguments};
 use std::io::IsTerminal;
 use types::{EqualizeState, Fresh};
 
 // The whole program, and its exit status.
-pub fn served(rt: &HostRuntime) -> i32
-    ensures { ExitStatus result }
-{
-    let count = arguments::count(rt);
-    let status = each(rt, count, false);
-    if status != program::SERVED {
-        return status;
+pub fn served(rt: &HostRuntime) -> Status {
+    let p = Program {
+        rt,
+        name: b"equalizer",
+    };
+    match all(p) {
+        Ok(()) => Status::Served,
+        Err(status) => status,
     }
-    each(rt, count, true)
+}
+
+// Reads the options of every run, then runs each.
+fn all(p: Program<'_>) -> Result<(), Status> {
+    let count = arguments::count(p.rt);
+    each(p, count, false)?;
+    each(p, count, true)
 }
 
 // Reads the options of every run, or runs each, and stops at the first that is not served.
-fn each(rt: &HostRuntime, count: usize, serve: bool) -> i32
-    ensures { ExitStatus result }
-{
+fn each(p: Program<'_>, count: usize, serve: bool) -> Result<(), Status> {
     let mut at = 1;
-    let mut turns = count;
-    while turns > 0 {
-        let end = options::end_of(rt, at, count);
-        let status = run(rt, at, end, serve);
-        if status != program::SERVED {
-            return status;
-        }
+    for _ in 0..count {
+        let end = options::end_of(p.rt, at, count);
+        run(p, at, end, serve)?;
         if end >= count {
-            return program::SERVED;
+            break;
         }
         at = end + 1;
-        turns -= 1;
     }
-    program::SERVED
+    Ok(())
 }
 
-fn run(rt: &HostRuntime, at: usize, end: usize, serve: bool) -> i32
-    ensures { ExitStatus result }
-{
-    match options::read(rt, at, end) {
-        Asked::Faulty(f) => {
-            report::fault(rt, f);
-            program::USAGE
+fn run(p: Program<'_>, at: usize, end: usize, serve: bool) -> Result<(), Status> {
+    match options::read(p.rt, at, end) {
+        Err(f) => {
+            report::fault(p, f);
+            Err(Status::Usage)
         }
-        Asked::Run(o) => {
-            if o.help || o.version {
-                return said(rt, serve, o.help);
+        Ok(o) => match o.about {
+            None => {
+                is_ready(p, &o)?;
+                job(p, &o, serve)
             }
-            if !is_ready(rt, o) {
-                return program::USAGE;
+            // Help or the version, once it is its turn.
+            Some(about) => {
+                if serve {
+                    report::about(p, about)
+                } else {
+                    Ok(())
+                }
             }
-            job(rt, o, serve)
-        }
+        },
     }
 }
 
-// Help or the version, once it is its turn.
-fn said(rt: &HostRuntime, serve: bool, help: bool) -> i32
-    ensures { ExitStatus result }
-{
-    if !serve {
-        return program::SERVED;
-    }
-    if help {
-        return report::help(rt);
-    }
-    report::version(rt)
+fn usage(p: Program<'_>, words: &[u8]) -> Result<(), Status> {
+    p.tell(&[Words(words)]);
+    Err(Status::Usage)
 }
 
 // Samples are neither typed in nor shown on a terminal, and standard output is one output.
-fn is_ready(rt: &HostRuntime, o: Options) -> bool {
-    let i = o.input;
-    let s = o.output;
-    let m = o.marks;
-    let c = o.curve;
-    if i.is_standard() && rt.stdin().is_terminal() {
-        report::plain(
-            rt,
+fn is_ready(p: Program<'_>, o: &Options) -> Result<(), Status> {
+    if o.input == Name::Standard && p.rt.stdin().is_terminal() {
+        return usage(
+            p,
             b"samples come from --in FILE or standard input; see --help",
         );
-        return false;
     }
-    if s.is_standard() && !o.text && rt.stdout().is_terminal() {
-        report::plain(
-            rt,
+    if o.output == Name::Standard && !o.text && p.rt.stdout().is_terminal() {
+        return usage(
+            p,
             b"symbols go to --out FILE or standard output, not to a terminal; see --help and --text",
         );
-        return false;
     }
-    if (s.is_standard() && m.is_standard())
-        || (s.is_standard() && c.is_standard())
-        || (m.is_standard() && c.is_standard())
+    let outputs = [Some(o.output), o.marks, o.curve];
+    if outputs
+        .iter()
+        .filter(|name| **name == Some(Name::Standard))
+        .count()
+        > 1
     {
-        report::plain(
-            rt,
+        return usage(
+            p,
             b"two outputs cannot both be standard output; nothing was written",
         );
-        return false;
     }
-    true
+    Ok(())
 }
 
 // The floats of all taps. At most 999 taps of each kind are asked for.
-fn parts_of(o: Options) -> usize
+fn parts_of(o: &Options) -> usize
     ensures { result ≤ 4096 }
 {
-    if o.taps > 999 {
-        return 0;
-    }
-    if o.feedback > 999 {
-        return 0;
-    }
-    2 * (o.taps + o.feedback)
+    2 * (o.taps.min(999) + o.feedback.min(999))
 }
 
-fn job(rt: &HostRuntime, o: Options, serve: bool) -> i32
-    ensures { ExitStatus result }
-{
+fn job(p: Program<'_>, o: &Options, serve: bool) -> Result<(), Status> {
     let mut weights = [0.0f32; 4096];
     let mut window = [0.0f32; 4096];
     let parts = parts_of(o);
-    start(rt, o, &mut weights[..parts], &mut window[..parts], serve)
+    start(p, o, &mut weights[..parts], &mut window[..parts], serve)
 }
 
-fn start(rt: &HostRuntime, o: Options, weights: &mut [f32], window: &mut [f32], serve: bool) -> i32
-    ensures { ExitStatus result }
-{
+fn start(
+    p: Program<'_>,
+    o: &Options,
+    weights: &mut [f32],
+    window: &mut [f32],
+    serve: bool,
+) -> Result<(), Status> {
     match equalize_state::new(weights, window, o.params()) {
         Fresh::NotMade(e) => {
-            report::refused(rt, e);
-            program::USAGE
+            report::refused(p, e);
+            Err(Status::Usage)
         }
         Fresh::Made(s) => {
             if !serve {
-                return program::SERVED;
+                return Ok(());
             }
             let state = equalize_state::set_frequency(s, o.frequency);
-            with_input(rt, o, state, weights, window)
+            with_input(p, o, state, weights, window)
         }
     }
 }
 
 fn with_input(
-    rt: &HostRuntime,
-    o: Options,
+    p: Program<'_>,
+    o: &Options,
     state: EqualizeState,
     weights: &mut [f32],
     window: &mut [f32],
-) -> i32
-    ensures { ExitStatus result }
-{
-    let v = o.input;
-    match files::input(rt, b"equalizer", v) {
-        None => program::FAILED,
-        Some(input) => match outputs::opened(rt, o, &input) {
-            Ready::NotAll => {
-                files::close_input(input);
-                program::FAILED
-            }
-            Ready::All(f) => with_files(rt, o, input, f, state, weights, window),
-        },
+) -> Result<(), Status> {
+    let Ok(input) = p.input(o.input) else {
+        return Err(Status::Failed);
+    };
+    match outputs::opened(p, o, &input) {
+        Ok(f) => with_files(p, o, input, f, state, weights, window),
+        Err(_) => Err(Status::Failed),
     }
 }
 
 fn with_files(
-    rt: &HostRuntime,
-    o: Options,
+    p: Program<'_>,
+    o: &Options,
     input: OpenInput,
     f: Outputs,
     state: EqualizeState,
     weights: &mut [f32],
     window: &mut [f32],
-) -> i32
-    ensures { ExitStatus result }
-{
+) -> Result<(), Status> {
     let ways = Ways {
         plain: o.plain,
         block: o.block,
@@ -195,21 +176,24 @@ fn with_files(
     };
     let done = equalizer_stream::all(
         ways,
-        outputs::files_of(rt, &input, &f),
+        outputs::files_of(p.rt, &input, &f),
         state,
         weights,
         window,
     );
-    files::close_input(input);
-    report::done(rt, o, done);
+    drop(input);
+    report::done(p, o, done);
     if !done.is_whole() {
-        outputs::left(rt, f);
-        report::plain(rt, b"FAILED: the input was not served whole");
-        return program::FAILED;
+        f.left(p);
+        return failed(p, b"FAILED: the input was not served whole");
     }
-    if !outputs::whole(rt, f) {
-        report::plain(rt, b"FAILED: not every output has its name");
-        return program::FAILED;
+    if f.whole(p).is_err() {
+        return failed(p, b"FAILED: not every output has its name");
     }
-    program::SERVED
+    Ok(())
+}
+
+fn failed(p: Program<'_>, words: &[u8]) -> Result<(), Status> {
+    p.tell(&[Words(words)]);
+    Err(Status::Failed)
 }

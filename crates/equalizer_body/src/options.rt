@@ -1,16 +1,21 @@
 // The options of a run, as the arguments give them.
 ghost use Rattle.std.specs.Prelude.{◌<◌};
 
-use program::arguments::{Fault, Value};
-use program::numbers::{Real, Whole};
+use program::arguments::{Fault, Name, Value};
 use program::{arguments, numbers};
 use std::env::Env;
 use types::{EqConstellation, EqParams};
 
+// What is told in the place of a run.
+#[derive(Clone, Copy, PartialEq, Eq)]
+pub(crate) enum About {
+    Help,
+    Version,
+}
+
 #[derive(Clone, Copy)]
 pub(crate) struct Options {
-    // By its number, which can be set in place.
-    constellation: u32,
+    constellation: EqConstellation,
     pub(crate) taps: usize,
     pub(crate) feedback: usize,
     mu_cma: f32,
@@ -21,41 +26,155 @@ pub(crate) struct Options {
     pub(crate) plain: bool,
     pub(crate) block: usize,
     pub(crate) text: bool,
-    pub(crate) help: bool,
-    pub(crate) version: bool,
-    // The values that name files.
-    pub(crate) input: Value,
-    pub(crate) output: Value,
-    pub(crate) marks: Value,
-    pub(crate) curve: Value,
+    pub(crate) about: Option<About>,
+    pub(crate) input: Name,
+    pub(crate) output: Name,
+    pub(crate) marks: Option<Name>,
+    pub(crate) curve: Option<Name>,
 }
 
-// Options that were read, or the fault that ended the reading.
+// What an option with a value sets.
 #[derive(Clone, Copy)]
-pub(crate) enum Asked {
-    Run(Options),
-    Faulty(Fault),
+enum Setting {
+    Input,
+    Output,
+    Marks,
+    Curve,
+    MuCma,
+    MuDd,
+    Bandwidth,
+    Frequency,
+    Taps,
+    Feedback,
+    CmaSymbols,
+    Block,
+    Constellation,
+    Path,
 }
 
 #[derive(Clone, Copy)]
-enum Set {
-    To(Options),
-    Unreadable,
+enum Flag {
+    Text,
+    About(About),
 }
 
+// An option: one that takes a value, with what it takes in words, or one that takes none.
 #[derive(Clone, Copy)]
-enum Turn {
-    Next(Options, usize),
-    Stop(Fault),
+enum Kind {
+    Valued(Setting, &'static [u8]),
+    Alone(Flag),
 }
 
-impl Options {
-    // The Rust's settings, and 11 taps.
-    fn start() -> Options {
+// The option of a name.
+fn named(name: &[u8]) -> Option<Kind> {
+    Some(match name {
+        b"--in" => Kind::Valued(
+            Setting::Input,
+            b"the name of a file, or - for standard input",
+        ),
+        b"--out" => Kind::Valued(
+            Setting::Output,
+            b"the name of a file, or - for standard output",
+        ),
+        b"--marks" => Kind::Valued(
+            Setting::Marks,
+            b"the name of a file, or - for standard output",
+        ),
+        b"--curve" => Kind::Valued(
+            Setting::Curve,
+            b"the name of a file, or - for standard output",
+        ),
+        b"--mu-cma" => Kind::Valued(
+            Setting::MuCma,
+            b"a number from 0.00001 to 1, of at most 15 digits",
+        ),
+        b"--mu-dd" => Kind::Valued(
+            Setting::MuDd,
+            b"a number from 0.00001 to 1, of at most 15 digits",
+        ),
+        b"--bandwidth" => Kind::Valued(
+            Setting::Bandwidth,
+            b"0, or a number from 0.0001 to 0.2, of at most 15 digits",
+        ),
+        b"--frequency" => Kind::Valued(
+            Setting::Frequency,
+            b"a number, held to -0.125 to 0.125, of at most 15 digits",
+        ),
+        b"--taps" => Kind::Valued(Setting::Taps, b"an odd number from 3 to 63"),
+        b"--feedback" => Kind::Valued(Setting::Feedback, b"a whole number from 0 to 63"),
+        b"--cma-symbols" => Kind::Valued(
+            Setting::CmaSymbols,
+            b"a whole number from 0 to 4294967294, or never",
+        ),
+        b"--block" => Kind::Valued(Setting::Block, b"a whole number from 1 to 4096"),
+        b"--constellation" => {
+            Kind::Valued(Setting::Constellation, b"bpsk, qpsk, 8psk, 16qam or 64qam")
+        }
+        b"--path" => Kind::Valued(Setting::Path, b"plain or fast"),
+        b"--text" => Kind::Alone(Flag::Text),
+        b"--help" | b"-h" => Kind::Alone(Flag::About(About::Help)),
+        b"--version" => Kind::Alone(Flag::About(About::Version)),
+        _ => return None,
+    })
+}
+
+fn name_of(t: &[u8], v: Value) -> Name {
+    match t {
+        b"-" => Name::Standard,
+        _ => Name::File(v),
+    }
+}
+
+fn narrow_of(t: &[u8]) -> Option<f32> {
+    numbers::real_of(t).map(numeric::narrow)
+}
+
+// Up to 999 taps are handed to `new`, which says which it takes.
+fn taps_of(t: &[u8]) -> Option<usize> {
+    usize::try_from(numbers::whole_of(t, 999)?).ok()
+}
+
+// `never` is the count that is not reached.
+fn symbols_of(t: &[u8]) -> Option<u32> {
+    match t {
+        b"never" => Some(0xffff_ffff),
+        _ => u32::try_from(numbers::whole_of(t, 0xffff_fffe)?).ok(),
+    }
+}
+
+fn block_of(t: &[u8]) -> Option<usize> {
+    match usize::try_from(numbers::whole_of(t, 4096)?) {
+        Ok(0) | Err(_) => None,
+        Ok(n) => Some(n),
+    }
+}
+
+fn constellation_of(t: &[u8]) -> Option<EqConstellation> {
+    match t {
+        b"bpsk" => Some(EqConstellation::Bpsk),
+        b"qpsk" => Some(EqConstellation::Qpsk),
+        b"8psk" => Some(EqConstellation::Psk8),
+        b"16qam" => Some(EqConstellation::Qam16),
+        b"64qam" => Some(EqConstellation::Qam64),
+        _ => None,
+    }
+}
+
+// Whether the path is the plain one.
+fn plain_of(t: &[u8]) -> Option<bool> {
+    match t {
+        b"plain" => Some(true),
+        b"fast" => Some(false),
+        _ => None,
+    }
+}
+
+// The Rust's settings, and 11 taps.
+impl Default for Options {
+    fn default() -> Options {
         let p = EqParams::default();
-        let k = p.constellation;
         Options {
-            constellation: types_numbers::constellation_number(k),
+            constellation: p.constellation,
             taps: 11,
             feedback: p.feedback_taps,
             mu_cma: p.mu_cma,
@@ -66,18 +185,19 @@ impl Options {
             plain: false,
             block: 4096,
             text: false,
-            help: false,
-            version: false,
-            input: Value::STANDARD,
-            output: Value::STANDARD,
-            marks: Value::NONE,
-            curve: Value::NONE,
+            about: None,
+            input: Name::Standard,
+            output: Name::Standard,
+            marks: None,
+            curve: None,
         }
     }
+}
 
-    pub(crate) fn params(self) -> EqParams {
+impl Options {
+    pub(crate) fn params(&self) -> EqParams {
         EqParams {
-            constellation: types_numbers::constellation_of(self.constellation),
+            constellation: self.constellation,
             feedback_taps: self.feedback,
             mu_cma: self.mu_cma,
             mu_dd: self.mu_dd,
@@ -85,274 +205,114 @@ impl Options {
             phase_bw: self.bandwidth,
         }
     }
-}
 
-// The number of an option: 0 to 3 take a file, 4 to 7 a real number, 8 to 11 a whole one, 12 and 13 a word, the others nothing.
-fn option(t: &[u8]) -> usize {
-    arguments::place(
-        b"--in --out --marks --curve --mu-cma --mu-dd --bandwidth --frequency --taps --feedback --cma-symbols --block --constellation --path --text --help -h --version ",
-        t,
-    )
-}
-
-// What the option of a number takes.
-pub(crate) fn taken(k: usize, p: &mut [u8], at: usize) -> usize {
-    program::text::entry(
-        p,
-        at,
-        b"the name of a file, or - for standard input
-the name of a file, or - for standard output
-the name of a file, or - for standard output
-the name of a file, or - for standard output
-a number from 0.00001 to 1, of at most 15 digits
-a number from 0.00001 to 1, of at most 15 digits
-0, or a number from 0.0001 to 0.2, of at most 15 digits
-a number, held to -0.125 to 0.125, of at most 15 digits
-an odd number from 3 to 63
-a whole number from 0 to 63
-a whole number from 0 to 4294967294, or never
-a whole number from 1 to 4096
-bpsk, qpsk, 8psk, 16qam or 64qam
-plain or fast
-",
-        k,
-    )
-}
-
-fn with_file(o: Options, k: usize, v: Value) -> Options {
-    let mut n = o;
-    match k {
-        0 => n.input = v,
-        1 => n.output = v,
-        2 => n.marks = v,
-        _ => n.curve = v,
+    // Sets what an option does to the value v of text t, where it takes that.
+    fn set(&mut self, setting: Setting, t: &[u8], v: Value) -> Option<()> {
+        if t.is_empty() {
+            return None;
+        }
+        match setting {
+            Setting::Input => self.input = name_of(t, v),
+            Setting::Output => self.output = name_of(t, v),
+            Setting::Marks => self.marks = Some(name_of(t, v)),
+            Setting::Curve => self.curve = Some(name_of(t, v)),
+            Setting::MuCma => self.mu_cma = narrow_of(t)?,
+            Setting::MuDd => self.mu_dd = narrow_of(t)?,
+            Setting::Bandwidth => self.bandwidth = numbers::real_of(t)?,
+            Setting::Frequency => self.frequency = narrow_of(t)?,
+            Setting::Taps => self.taps = taps_of(t)?,
+            Setting::Feedback => self.feedback = taps_of(t)?,
+            Setting::CmaSymbols => self.cma_symbols = symbols_of(t)?,
+            Setting::Block => self.block = block_of(t)?,
+            Setting::Constellation => self.constellation = constellation_of(t)?,
+            Setting::Path => self.plain = plain_of(t)?,
+        }
+        Some(())
     }
-    n
-}
 
-fn read_file(o: Options, k: usize, value: &[u8], v: Value) -> Set {
-    if arguments::place(b"- ", value) == 0 {
-        return Set::To(with_file(o, k, Value::STANDARD));
+    // An option that takes nothing. Help is told before the version.
+    fn flag(&mut self, flag: Flag) {
+        match flag {
+            Flag::Text => self.text = true,
+            Flag::About(About::Help) => self.about = Some(About::Help),
+            Flag::About(About::Version) => self.about = self.about.or(Some(About::Version)),
+        }
     }
-    Set::To(with_file(o, k, v))
-}
 
-fn with_real(o: Options, k: usize, x: f64) -> Options {
-    let mut n = o;
-    match k {
-        4 => n.mu_cma = numeric::narrow(x),
-        5 => n.mu_dd = numeric::narrow(x),
-        6 => n.bandwidth = x,
-        _ => n.frequency = numeric::narrow(x),
-    }
-    n
-}
-
-fn read_real(o: Options, k: usize, value: &[u8]) -> Set {
-    match numbers::real_of(value) {
-        Real::Value(x) => Set::To(with_real(o, k, x)),
-        Real::Unreadable => Set::Unreadable,
-    }
-}
-
-// Up to 999 taps are handed to `new`, which says which it takes.
-fn read_taps(o: Options, k: usize, value: &[u8]) -> Set {
-    match numbers::whole_of(value, 999) {
-        Whole::Value(x) => {
-            let mut n = o;
-            if k == 8 {
-                n.taps = x as usize;
-            } else {
-                n.feedback = x as usize;
+    // The option at `at` and its value. Answers where the next option stands.
+    fn take(&mut self, rt: &HostRuntime, at: usize, end: usize) -> Result<usize, Fault>
+        requires { at < end }
+    {
+        let argument = text_of(rt, Value::from(at))?;
+        let text = argument.bytes();
+        let name = arguments::name_end(text);
+        let has_value = name < text.len();
+        match named(&text[..name]) {
+            None => Err(Fault::Unknown(at)),
+            Some(Kind::Alone(flag)) => {
+                if has_value {
+                    return Err(Fault::NotTaken(at));
+                }
+                self.flag(flag);
+                Ok(at + 1)
             }
-            Set::To(n)
-        }
-        Whole::Unreadable => Set::Unreadable,
-    }
-}
-
-// `never` is the count that is not reached.
-fn read_symbols(o: Options, value: &[u8]) -> Set {
-    let mut n = o;
-    if arguments::place(b"never ", value) == 0 {
-        n.cma_symbols = 0xffff_ffff;
-        return Set::To(n);
-    }
-    match numbers::whole_of(value, 0xffff_fffe) {
-        Whole::Value(x) => {
-            n.cma_symbols = (x % 0x1_0000_0000) as u32;
-            Set::To(n)
-        }
-        Whole::Unreadable => Set::Unreadable,
-    }
-}
-
-fn read_block(o: Options, value: &[u8]) -> Set {
-    match numbers::whole_of(value, 4096) {
-        Whole::Value(x) => {
-            if x == 0 {
-                return Set::Unreadable;
+            Some(Kind::Valued(setting, takes)) => {
+                if has_value {
+                    let v = Value { at, from: name + 1 };
+                    self.take_value(rt, at, setting, takes, v)?;
+                    return Ok(at + 1);
+                }
+                if at + 1 == end {
+                    return Err(Fault::NoValue(at));
+                }
+                self.take_value(rt, at, setting, takes, Value::from(at + 1))?;
+                Ok(at + 2)
             }
-            let mut n = o;
-            n.block = x as usize;
-            Set::To(n)
         }
-        Whole::Unreadable => Set::Unreadable,
+    }
+
+    // The value of the option at `at`.
+    fn take_value(
+        &mut self,
+        rt: &HostRuntime,
+        at: usize,
+        setting: Setting,
+        takes: &'static [u8],
+        v: Value,
+    ) -> Result<(), Fault> {
+        let value = text_of(rt, v)?;
+        self.set(setting, value.bytes(), v)
+            .ok_or(Fault::Unreadable(at, v, takes))
     }
 }
 
-fn with_constellation(o: Options, k: EqConstellation) -> Set {
-    let mut n = o;
-    n.constellation = types_numbers::constellation_number(k);
-    Set::To(n)
-}
-
-fn read_constellation(o: Options, value: &[u8]) -> Set {
-    match arguments::place(b"bpsk qpsk 8psk 16qam 64qam ", value) {
-        0 => with_constellation(o, EqConstellation::Bpsk),
-        1 => with_constellation(o, EqConstellation::Qpsk),
-        2 => with_constellation(o, EqConstellation::Psk8),
-        3 => with_constellation(o, EqConstellation::Qam16),
-        4 => with_constellation(o, EqConstellation::Qam64),
-        _ => Set::Unreadable,
-    }
-}
-
-fn read_path(o: Options, value: &[u8]) -> Set {
-    let p = arguments::place(b"plain fast ", value);
-    if p > 1 {
-        return Set::Unreadable;
-    }
-    let mut n = o;
-    n.plain = p == 0;
-    Set::To(n)
-}
-
-// An option that takes a value.
-fn with_value(o: Options, k: usize, value: &[u8], v: Value) -> Set {
-    if value.len() == 0 {
-        return Set::Unreadable;
-    }
-    if k < 4 {
-        return read_file(o, k, value, v);
-    }
-    if k < 8 {
-        return read_real(o, k, value);
-    }
-    match k {
-        8 => read_taps(o, k, value),
-        9 => read_taps(o, k, value),
-        10 => read_symbols(o, value),
-        11 => read_block(o, value),
-        12 => read_constellation(o, value),
-        _ => read_path(o, value),
-    }
-}
-
-// The option at `at`, which has the number k, its value, and where the next option stands.
-fn take_value(rt: &HostRuntime, o: Options, k: usize, at: usize, v: Value, next: usize) -> Turn {
-    let mut value = io::buffer();
-    let Ok(n) = arguments::whole_text_of(rt, v, &mut value) else {
-        return Turn::Stop(Fault::Long(v.at));
-    };
-    match with_value(o, k, &value[..n], v) {
-        Set::To(p) => Turn::Next(p, next),
-        Set::Unreadable => Turn::Stop(Fault::Unreadable(at, k, v)),
-    }
-}
-
-// An option that takes nothing.
-fn take_flag(o: Options, k: usize, at: usize) -> Turn
-    requires { at < 0xffff_ffff_ffff_ffff }
-{
-    let mut n = o;
-    match k {
-        14 => n.text = true,
-        15 => n.help = true,
-        16 => n.help = true,
-        17 => n.version = true,
-        _ => return Turn::Stop(Fault::Unknown(at)),
-    }
-    Turn::Next(n, at + 1)
-}
-
-// The option at `at`, of number k; `from` is where its value stands behind a `=`, or 0.
-fn take_option(rt: &HostRuntime, o: Options, k: usize, at: usize, from: usize, end: usize) -> Turn
-    requires { at < end }
-{
-    if k >= 14 {
-        if from != 0 && k < 18 {
-            return Turn::Stop(Fault::NotTaken(at));
-        }
-        return take_flag(o, k, at);
-    }
-    if from != 0 {
-        return take_value(rt, o, k, at, Value { at, from }, at + 1);
-    }
-    if at + 1 == end {
-        return Turn::Stop(Fault::NoValue(at));
-    }
-    take_value(
-        rt,
-        o,
-        k,
-        at,
-        Value {
-            at: at + 1,
-            from: 0,
-        },
-        at + 2,
-    )
-}
-
-fn take(rt: &HostRuntime, o: Options, at: usize, end: usize) -> Turn
-    requires { at < end }
-{
-    let mut name = io::buffer();
-    let Ok(n) = rt.arg(at, &mut name) else {
-        return Turn::Stop(Fault::Long(at));
-    };
-    let e = arguments::name_end(&name[..n]);
-    let from = if e < n { e + 1 } else { 0 };
-    let k = option(&name[..e]);
-    take_option(rt, o, k, at, from, end)
+fn text_of(rt: &HostRuntime, v: Value) -> Result<arguments::Text, Fault> {
+    arguments::whole_text_of(rt, v).map_err(|_| Fault::Long(v.at))
 }
 
 // The options of the arguments from `start` to before `end`. Every turn takes an argument, so there are no more turns than arguments.
-pub(crate) fn read(rt: &HostRuntime, start: usize, end: usize) -> Asked {
-    let mut o = Options::start();
+pub(crate) fn read(rt: &HostRuntime, start: usize, end: usize) -> Result<Options, Fault> {
+    let mut o = Options::default();
     let mut at = start;
-    let mut turns = end;
-    while turns > 0 {
+    for _ in start..end {
         if at >= end {
-            return Asked::Run(o);
+            break;
         }
-        match take(rt, o, at, end) {
-            Turn::Next(n, i) => {
-                o = n;
-                at = i;
-            }
-            Turn::Stop(f) => return Asked::Faulty(f),
-        }
-        turns -= 1;
+        at = o.take(rt, at, end)?;
     }
-    Asked::Run(o)
+    Ok(o)
 }
 
 fn is_then(rt: &HostRuntime, at: usize) -> bool {
-    let mut name = io::buffer();
-    let n = arguments::text_of(rt, Value { at, from: 0 }, &mut name);
-    arguments::place(b"--then ", &name[..n]) == 0
+    arguments::text_of(rt, Value::from(at)).bytes() == b"--then".as_slice()
 }
 
 // Where the arguments of a run end: at the next `--then`, or at the last.
 pub(crate) fn end_of(rt: &HostRuntime, start: usize, count: usize) -> usize {
-    let mut at = start;
-    while at < count {
+    for at in start..count {
         if is_then(rt, at) {
             return at;
         }
-        at += 1;
     }
     count
 }

@@ -1,119 +1,87 @@
 // The files of a run.
 use crate::options::Options;
 use equalizer_stream::Files;
-use program::arguments::Value;
-use program::files;
-use program::files::{OpenInput, Opened, Output};
+use program::arguments::Name;
+use program::files::{OpenInput, Output};
+use program::messages::{Program, Told};
 use program_look::Seen;
 
 #[derive(Drop)]
 pub(crate) struct Outputs {
-    pub(crate) symbols: Output,
-    pub(crate) marks: Output,
-    pub(crate) curve: Output,
-}
-
-// All outputs, or none, and why is said.
-#[derive(Drop)]
-pub(crate) enum Ready {
-    All(Outputs),
-    NotAll,
-}
-
-// Makes an output beside two that are made: no two of them are one file.
-fn beside(rt: &HostRuntime, v: Value, a: &Output, b: &Output, input: Seen) -> Opened {
-    if files::clashes(rt, b"equalizer", v, a) || files::clashes(rt, b"equalizer", v, b) {
-        return Opened::NotMade;
-    }
-    match files::made(rt, b"equalizer", v, input) {
-        Opened::NotMade => Opened::NotMade,
-        Opened::Made(o) => {
-            let x = a.name;
-            let y = b.name;
-            if files::clashes(rt, b"equalizer", x, &o) || files::clashes(rt, b"equalizer", y, &o) {
-                files::dropped(rt, o);
-                return Opened::NotMade;
-            }
-            Opened::Made(o)
-        }
-    }
+    symbols: Output,
+    marks: Output,
+    curve: Output,
 }
 
 // Makes the marks or the curve, which do not replace the input.
-fn further(rt: &HostRuntime, v: Value, a: &Output, b: &Output, input: Seen) -> Opened {
-    if files::is_input(rt, b"equalizer", v, input) {
-        return Opened::NotMade;
-    }
-    beside(rt, v, a, b, input)
+fn further(
+    p: Program<'_>,
+    name: Option<Name>,
+    input: Seen,
+    others: &[&Output],
+) -> Result<Output, Told> {
+    p.not_input(name, input)?;
+    p.output(name, input, others)
 }
 
-fn with_curve(rt: &HostRuntime, o: Options, symbols: Output, marks: Output, input: Seen) -> Ready {
-    let v = o.curve;
-    match further(rt, v, &symbols, &marks, input) {
-        Opened::Made(curve) => Ready::All(Outputs {
+// Makes all outputs, or none.
+pub(crate) fn opened(p: Program<'_>, o: &Options, input: &OpenInput) -> Result<Outputs, Told> {
+    let seen = input.look(p.rt);
+    let symbols = p.output(Some(o.output), seen, &[])?;
+    let marks = match further(p, o.marks, seen, &[&symbols]) {
+        Ok(marks) => marks,
+        Err(told) => {
+            p.dropped(symbols);
+            return Err(told);
+        }
+    };
+    match further(p, o.curve, seen, &[&symbols, &marks]) {
+        Ok(curve) => Ok(Outputs {
             symbols,
             marks,
             curve,
         }),
-        Opened::NotMade => {
-            files::dropped(rt, symbols);
-            files::dropped(rt, marks);
-            Ready::NotAll
+        Err(told) => {
+            p.dropped(symbols);
+            p.dropped(marks);
+            Err(told)
         }
-    }
-}
-
-fn with_marks(rt: &HostRuntime, o: Options, symbols: Output, input: Seen) -> Ready {
-    let v = o.marks;
-    match further(rt, v, &symbols, &Output::none(), input) {
-        Opened::Made(marks) => with_curve(rt, o, symbols, marks, input),
-        Opened::NotMade => {
-            files::dropped(rt, symbols);
-            Ready::NotAll
-        }
-    }
-}
-
-pub(crate) fn opened(rt: &HostRuntime, o: Options, input: &OpenInput) -> Ready {
-    let seen = files::look_input(rt, input);
-    let v = o.output;
-    match beside(rt, v, &Output::none(), &Output::none(), seen) {
-        Opened::Made(symbols) => with_marks(rt, o, symbols, seen),
-        Opened::NotMade => Ready::NotAll,
     }
 }
 
 pub(crate) fn files_of<'a>(rt: &HostRuntime, input: &'a OpenInput, o: &'a Outputs) -> Files<'a> {
     Files {
         input: input.source(rt),
-        at_hand: files::is_at_hand(rt, input),
+        at_hand: input.is_at_hand(rt),
         output: o.symbols.sink(rt),
         marks: o.marks.sink(rt),
         curve: o.curve.sink(rt),
     }
 }
 
-// Ends the outputs of a run that served its whole input. Answers whether all are there under their names.
-pub(crate) fn whole(rt: &HostRuntime, o: Outputs) -> bool {
-    let Outputs {
-        symbols,
-        marks,
-        curve,
-    } = o;
-    let a = files::whole(rt, b"equalizer", symbols);
-    let b = files::whole(rt, b"equalizer", marks);
-    let d = files::whole(rt, b"equalizer", curve);
-    a & b & d
-}
+impl Outputs {
+    // Ends the outputs of a run that served its whole input, each of them, whatever becomes of the others.
+    pub(crate) fn whole(self, p: Program<'_>) -> Result<(), Told> {
+        let Outputs {
+            symbols,
+            marks,
+            curve,
+        } = self;
+        let a = p.whole(symbols);
+        let b = p.whole(marks);
+        let d = p.whole(curve);
+        a.and(b).and(d)
+    }
 
-// Ends those of a run that did not.
-pub(crate) fn left(rt: &HostRuntime, o: Outputs) {
-    let Outputs {
-        symbols,
-        marks,
-        curve,
-    } = o;
-    files::left(rt, b"equalizer", symbols);
-    files::left(rt, b"equalizer", marks);
-    files::left(rt, b"equalizer", curve);
+    // Ends those of a run that did not.
+    pub(crate) fn left(self, p: Program<'_>) {
+        let Outputs {
+            symbols,
+            marks,
+            curve,
+        } = self;
+        p.left(symbols);
+        p.left(marks);
+        p.left(curve);
+    }
 }

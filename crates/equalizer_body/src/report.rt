@@ -1,279 +1,217 @@
 // What the program says, on standard error; help and version go to standard output.
-ghost use Rattle.program.specs.Status.{ExitStatus};
-
-use crate::options;
-use crate::options::Options;
+use crate::options::{About, Options};
 use equalizer_stream::{Done, Ending, Tally};
-use program::arguments::{Fault, Value};
-use program::{arguments, messages, text};
+use program::arguments::{Fault, Name, Value};
+use program::messages::Part::{Count, Float, Reason, Text, Words};
+use program::messages::{Part, Program, Told};
+use program::{Status, arguments};
 use std::env::Env;
-use types::{EqualizeState, Error};
-
-fn begin(p: &mut [u8], words: &[u8]) -> usize {
-    let at = messages::begin(p, b"equalizer");
-    text::words(p, at, words)
-}
-
-pub(crate) fn plain(rt: &HostRuntime, words: &[u8]) {
-    messages::plain(rt, b"equalizer", words);
-}
-
-// A line with an argument in it.
-fn with_argument(rt: &HostRuntime, before: &[u8], at: usize, after: &[u8]) {
-    messages::with_value(rt, b"equalizer", before, Value { at, from: 0 }, after);
-}
+use std::io::{Error, Write};
+use types::EqualizeState;
 
 // The first bytes of an argument that is too long.
-fn too_long(rt: &HostRuntime, at: usize) {
-    let mut p = [0u8; 8192];
-    let a = begin(&mut p, b"an argument is longer than 4096 bytes: ");
-    let mut name = io::buffer();
-    let _ = rt.arg(at, &mut name);
-    let b = text::words(&mut p, a, &name[..40]);
-    let c = text::words(&mut p, b, b"..");
-    messages::tell(rt, &mut p, c);
+fn too_long(p: Program<'_>, at: usize) -> Told {
+    let mut argument = io::buffer();
+    let _ = p.rt.arg(at, &mut argument);
+    let start = &argument[..40];
+    p.tell(&[
+        Words(b"an argument is longer than 4096 bytes: "),
+        Words(start),
+        Words(b".."),
+    ])
 }
 
-fn not_taken(rt: &HostRuntime, at: usize, k: usize, v: Value) {
-    let mut p = [0u8; 8192];
-    let a = begin(&mut p, b"");
-    let b = option_name(rt, &mut p, a, at);
-    let c = text::words(&mut p, b, b" does not take ");
-    let d = quoted(rt, &mut p, c, v);
-    let e = text::words(&mut p, d, b": it takes ");
-    let f = options::taken(k, &mut p, e);
-    messages::tell(rt, &mut p, f);
+// An option, without the value behind its `=`, and a value that it does not take.
+fn not_taken(p: Program<'_>, at: usize, v: Value, takes: &'static [u8]) -> Told {
+    let argument = arguments::text_of(p.rt, Value::from(at));
+    let option = &argument.bytes()[..arguments::name_end(argument.bytes())];
+    let quoted = if arguments::text_of(p.rt, v).bytes().is_empty() {
+        Words(b"an empty value")
+    } else {
+        Text(v)
+    };
+    untaken(p, option, quoted, takes)
 }
 
-// An option without the value behind its `=`.
-fn option_name(rt: &HostRuntime, p: &mut [u8], start: usize, at: usize) -> usize {
-    let mut name = io::buffer();
-    let n = arguments::text_of(rt, Value { at, from: 0 }, &mut name);
-    let e = arguments::name_end(&name[..n]);
-    text::words(p, start, &name[..e])
+fn untaken<'a>(p: Program<'_>, option: &'a [u8], quoted: Part<'a>, takes: &'a [u8]) -> Told {
+    p.tell(&[
+        Words(option),
+        Words(b" does not take "),
+        quoted,
+        Words(b": it takes "),
+        Words(takes),
+    ])
 }
 
-// A value, or that it is empty.
-fn quoted(rt: &HostRuntime, p: &mut [u8], start: usize, v: Value) -> usize {
-    let at = messages::value(rt, p, start, v);
-    if at == start {
-        return text::words(p, at, b"an empty value");
-    }
-    at
-}
-
-pub(crate) fn fault(rt: &HostRuntime, f: Fault) {
+pub(crate) fn fault(p: Program<'_>, f: Fault) -> Told {
     match f {
-        Fault::Unknown(at) => with_argument(rt, b"there is no option ", at, b"; --help lists them"),
-        Fault::NoValue(at) => with_argument(rt, b"", at, b" takes a value; --help says which"),
-        Fault::NotTaken(at) => with_argument(rt, b"", at, b" takes no value"),
-        Fault::Long(at) => too_long(rt, at),
-        Fault::Unreadable(at, k, v) => not_taken(rt, at, k, v),
+        Fault::Unknown(at) => p.tell(&[
+            Words(b"there is no option "),
+            Text(Value::from(at)),
+            Words(b"; --help lists them"),
+        ]),
+        Fault::NoValue(at) => p.tell(&[
+            Text(Value::from(at)),
+            Words(b" takes a value; --help says which"),
+        ]),
+        Fault::NotTaken(at) => p.tell(&[Text(Value::from(at)), Words(b" takes no value")]),
+        Fault::Long(at) => too_long(p, at),
+        Fault::Unreadable(at, v, takes) => not_taken(p, at, v, takes),
     }
 }
 
-// The words of a refusal, by its number.
-fn reason(p: &mut [u8], at: usize, number: u32) -> usize {
-    text::entry(
-        p,
-        at,
-        b"
-a complex slice has an odd count of f32
-over 63 feedback taps
-forward taps even or outside 3 to 63
-the window's length is not the weights'
-mu-cma outside 0.00001 to 1
-mu-dd outside 0.00001 to 1
-bandwidth neither 0 nor 0.0001 to 0.2
-the record breaks a rule
-the output's length is not the input's
-the marks' length is not the input's
-",
-        number as usize,
-    )
-}
-
-fn counted(p: &mut [u8], start: usize, n: u64, what: &[u8]) -> usize {
-    let at = text::count(p, start, n);
-    text::words(p, at, what)
-}
-
-fn measured(p: &mut [u8], start: usize, what: &[u8], x: f32) -> usize {
-    let at = text::words(p, start, what);
-    text::float(p, at, x)
-}
-
-// The two lengths of a refusal, where it has some.
-fn lengths(p: &mut [u8], at: usize, e: Error) -> usize {
+// The words of a refusal.
+fn reason(e: types::Error) -> &'static [u8] {
     match e {
-        Error::Window { expected, got } => both(p, at, expected, got),
-        Error::Output { expected, got } => both(p, at, expected, got),
-        Error::Marks { expected, got } => both(p, at, expected, got),
-        Error::Odd
-        | Error::Feedback
-        | Error::Taps
-        | Error::MuCma
-        | Error::MuDd
-        | Error::Bandwidth
-        | Error::Record => at,
+        types::Error::Odd => b"a complex slice has an odd count of f32",
+        types::Error::Feedback => b"over 63 feedback taps",
+        types::Error::Taps => b"forward taps even or outside 3 to 63",
+        types::Error::Window { .. } => b"the window's length is not the weights'",
+        types::Error::MuCma => b"mu-cma outside 0.00001 to 1",
+        types::Error::MuDd => b"mu-dd outside 0.00001 to 1",
+        types::Error::Bandwidth => b"bandwidth neither 0 nor 0.0001 to 0.2",
+        types::Error::Record => b"the record breaks a rule",
+        types::Error::Output { .. } => b"the output's length is not the input's",
+        types::Error::Marks { .. } => b"the marks' length is not the input's",
     }
 }
 
-fn both(p: &mut [u8], start: usize, expected: usize, got: usize) -> usize {
-    let a = text::words(p, start, b": ");
-    let b = counted(p, a, expected as u64, b" expected, ");
-    counted(p, b, got as u64, b" given")
-}
-
-pub(crate) fn refused(rt: &HostRuntime, e: Error) {
-    let number = types_numbers::error_number(e);
-    let mut p = [0u8; 8192];
-    let a = begin(&mut p, b"refused, number ");
-    let b = counted(&mut p, a, number as u64, b": ");
-    let c = reason(&mut p, b, number);
-    let d = lengths(&mut p, c, e);
-    messages::tell(rt, &mut p, d);
+pub(crate) fn refused(p: Program<'_>, e: types::Error) -> Told {
+    let number = Count(u64::from(types_numbers::error_number(e)));
+    let why = Words(reason(e));
+    match e {
+        types::Error::Window { expected, got }
+        | types::Error::Output { expected, got }
+        | types::Error::Marks { expected, got } => p.tell(&[
+            Words(b"refused, number "),
+            number,
+            Words(b": "),
+            why,
+            Words(b": "),
+            Count(expected as u64),
+            Words(b" expected, "),
+            Count(got as u64),
+            Words(b" given"),
+        ]),
+        types::Error::Odd
+        | types::Error::Feedback
+        | types::Error::Taps
+        | types::Error::MuCma
+        | types::Error::MuDd
+        | types::Error::Bandwidth
+        | types::Error::Record => p.tell(&[Words(b"refused, number "), number, Words(b": "), why]),
+    }
 }
 
 // Bytes that are no marks are named only where there are some.
-fn unknown(p: &mut [u8], start: usize, n: u64) -> usize {
-    if n == 0 {
-        return start;
-    }
-    let at = text::words(p, start, b", ");
-    counted(p, at, n, b" unknown")
-}
-
-fn counts(rt: &HostRuntime, t: Tally) {
-    let mut p = [0u8; 8192];
-    let a = begin(&mut p, b"");
-    let b = counted(&mut p, a, t.samples, b" samples: ");
-    let c = counted(&mut p, b, t.heard, b" heard, ");
-    let d = counted(&mut p, c, t.blank, b" blank, ");
-    let e = counted(&mut p, d, t.spilled, b" spilled");
-    let f = unknown(&mut p, e, t.unknown);
-    messages::tell(rt, &mut p, f);
-}
-
-fn record(rt: &HostRuntime, s: EqualizeState) {
-    let mut p = [0u8; 8192];
-    let m = s.mode;
-    let a = begin(&mut p, b"mode ");
-    let b = equalizer_stream::mode(&mut p, a, m);
-    let c = measured(&mut p, b, b", mean error ", s.mse);
-    let d = measured(&mut p, c, b", frequency ", s.freq);
-    let e = text::words(&mut p, d, b" turns per sample");
-    messages::tell(rt, &mut p, e);
-}
-
-fn left_over(rt: &HostRuntime, n: usize) {
-    let mut p = [0u8; 8192];
-    let a = begin(&mut p, b"the input is truncated: ");
-    let b = counted(
-        &mut p,
-        a,
-        n as u64,
-        b" bytes are left over, and a sample has 8",
-    );
-    messages::tell(rt, &mut p, b);
-}
-
-// A file by its name, or a standard stream.
-fn source(
-    rt: &HostRuntime,
-    p: &mut [u8],
-    start: usize,
-    v: Value,
-    standard: &[u8],
-    part: &[u8],
-) -> usize {
-    if v.is_file() {
-        let at = messages::value(rt, p, start, v);
-        return text::words(p, at, part);
-    }
-    text::words(p, start, standard)
-}
-
-// A read or a write that failed, by its file and the reason.
-fn broken(rt: &HostRuntime, what: &[u8], v: Value, standard: &[u8], part: &[u8], error: i32) {
-    let mut p = [0u8; 8192];
-    let a = begin(&mut p, what);
-    let b = source(rt, &mut p, a, v, standard, part);
-    let c = text::words(&mut p, b, b" failed: ");
-    let d = messages::reason(&mut p, c, error);
-    messages::tell(rt, &mut p, d);
-}
-
-fn unwritten(rt: &HostRuntime, o: Options, which: u32, error: i32) {
-    let s = o.output;
-    let m = o.marks;
-    let c = o.curve;
-    match which {
-        0 => broken(rt, b"writing ", s, b"standard output", b".part", error),
-        1 => broken(rt, b"writing ", m, b"standard output", b".part", error),
-        _ => broken(rt, b"writing ", c, b"standard output", b".part", error),
+fn counts(p: Program<'_>, t: Tally) {
+    let parts = [
+        Count(t.samples),
+        Words(b" samples: "),
+        Count(t.heard),
+        Words(b" heard, "),
+        Count(t.blank),
+        Words(b" blank, "),
+        Count(t.spilled),
+        Words(b" spilled"),
+        Words(b", "),
+        Count(t.unknown),
+        Words(b" unknown"),
+    ];
+    if t.unknown == 0 {
+        p.tell(&parts[..8]);
+    } else {
+        p.tell(&parts);
     }
 }
 
-fn unread(rt: &HostRuntime, o: Options, error: i32) {
-    let v = o.input;
-    broken(rt, b"reading ", v, b"standard input", b"", error);
+fn record(p: Program<'_>, s: EqualizeState) {
+    p.tell(&[
+        Words(b"mode "),
+        Words(equalizer_stream::mode(s.mode)),
+        Words(b", mean error "),
+        Float(s.mse),
+        Words(b", frequency "),
+        Float(s.freq),
+        Words(b" turns per sample"),
+    ]);
 }
 
-fn trouble(rt: &HostRuntime, o: Options, e: Ending) {
+// A read that failed, by its file and the reason.
+fn unread(p: Program<'_>, name: Name, e: Error) {
+    let file = match name {
+        Name::Standard => Words(b"standard input"),
+        Name::File(v) => Text(v),
+    };
+    p.tell(&[Words(b"reading "), file, Words(b" failed: "), Reason(e)]);
+}
+
+// A write that failed: of a named output its `.part` was written.
+fn unwritten(p: Program<'_>, name: Name, e: Error) {
+    let (file, part) = match name {
+        Name::Standard => (Words(b"standard output"), Words(b"")),
+        Name::File(v) => (Text(v), Words(b".part")),
+    };
+    p.tell(&[
+        Words(b"writing "),
+        file,
+        part,
+        Words(b" failed: "),
+        Reason(e),
+    ]);
+}
+
+// What went wrong in a run.
+fn trouble(p: Program<'_>, o: &Options, e: Ending) {
     match e {
-        Ending::Whole => return,
-        Ending::Truncated(n) => left_over(rt, n),
-        Ending::Unread(error) => unread(rt, o, error),
-        Ending::Unwritten(which, error) => unwritten(rt, o, which, error),
-        Ending::Refused(error) => refused(rt, error),
-    }
-}
-
-// The summary, and what went wrong.
-pub(crate) fn done(rt: &HostRuntime, o: Options, d: Done) {
-    let p = d.progress;
-    let t = p.tally;
-    let s = p.state;
-    let e = d.ending;
-    counts(rt, t);
-    record(rt, s);
-    trouble(rt, o, e);
-}
-
-// Writes a text to standard output, and answers the status: whether all of it came there.
-fn told(rt: &HostRuntime, t: &[u8]) -> i32
-    ensures { ExitStatus result }
-{
-    match text::send(&mut rt.stdout(), t, t.len()) {
-        Ok(()) => program::SERVED,
-        Err(e) => {
-            let error = messages::number_of(&e);
-            broken(
-                rt,
-                b"writing ",
-                Value::STANDARD,
-                b"standard output",
-                b"",
-                error,
-            );
-            program::FAILED
+        Ending::Whole => {}
+        Ending::Truncated(n) => {
+            p.tell(&[
+                Words(b"the input is truncated: "),
+                Count(n as u64),
+                Words(b" bytes are left over, and a sample has 8"),
+            ]);
+        }
+        Ending::Unread(error) => unread(p, o.input, error),
+        Ending::Unwritten(which, error) => {
+            let name = match which {
+                0 => Some(o.output),
+                1 => o.marks,
+                _ => o.curve,
+            };
+            unwritten(p, name.unwrap_or(Name::Standard), error);
+        }
+        Ending::Refused(error) => {
+            refused(p, error);
         }
     }
 }
 
-pub(crate) fn version(rt: &HostRuntime) -> i32
-    ensures { ExitStatus result }
-{
-    told(rt, b"equalizer 0.1.0\n")
+// The summary, and what went wrong.
+pub(crate) fn done(p: Program<'_>, o: &Options, d: Done) {
+    counts(p, d.progress.tally);
+    record(p, d.progress.state);
+    trouble(p, o, d.ending);
 }
 
-pub(crate) fn help(rt: &HostRuntime) -> i32
-    ensures { ExitStatus result }
-{
-    told(
-        rt,
-        b"usage: equalizer [OPTION [VALUE]].. [--then [OPTION [VALUE]]..]..
+// Writes help or the version to standard output, all of it.
+pub(crate) fn about(p: Program<'_>, about: About) -> Result<(), Status> {
+    let text: &[u8] = match about {
+        About::Help => HELP,
+        About::Version => VERSION,
+    };
+    match p.rt.stdout().write_all(text) {
+        Ok(()) => Ok(()),
+        Err(e) => {
+            unwritten(p, Name::Standard, e);
+            Err(Status::Failed)
+        }
+    }
+}
+
+const VERSION: &[u8] = b"equalizer 0.1.0\n";
+
+const HELP: &[u8] = b"usage: equalizer [OPTION [VALUE]].. [--then [OPTION [VALUE]]..]..
 Equalizes complex samples. Samples and symbols are cf32: interleaved little-endian f32, real part first.
 A sample that is not finite is a blank, and its symbol is (0, 0).
 
@@ -301,6 +239,4 @@ X has at most 15 digits, and may have a sign, a point and an exponent. Messages 
 A named output is FILE.part, which must not be there, until the whole input is served, and only then FILE;
 a file that had the name stays till then. FILE is a plain file: for a pipe or a device use standard output.
 Exit status: 0 all was served; 1 something failed, and a message says what; 2 the options are wrong, and nothing was done.
-",
-    )
-}
+";

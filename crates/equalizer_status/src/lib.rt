@@ -10,7 +10,7 @@ use std::process::ExitCode;
 pub fn equalizer_main(rt: &HostRuntime) -> i32
     ensures { ExitStatus result }
 {
-    equalizer_body::served(rt)
+    i32::from(equalizer_body::served(rt))
 }
 
 // The status as the system takes it.

@@ -6,8 +6,10 @@ ghost use Rattle.equalizer_stream.specs.Ends.{is_whole};
 ghost use Rattle.equalizer_stream.specs.Room.{Holds};
 
 use program::files::{Sink, Source};
-use program::{messages, text};
-use std::io::{Read, Result};
+use program::text;
+use program::text::Page;
+use std::io;
+use std::io::{Read, Result, Write};
 use types::{EqMode, EqualizeState, Equalized, Error, Mark, Outcome};
 
 // How a stream is served: by the plain path or the fast one, how many samples a call, as text or as bytes.
@@ -60,8 +62,8 @@ pub enum Ending {
     Whole,
     // The bytes that are left over.
     Truncated(usize),
-    Unread(i32),
-    Unwritten(u32, i32),
+    Unread(io::Error),
+    Unwritten(u32, io::Error),
     Refused(Error),
 }
 
@@ -97,8 +99,7 @@ enum Turn {
 struct Filled {
     bytes: usize,
     more: bool,
-    failed: bool,
-    error: i32,
+    failed: Option<io::Error>,
 }
 
 fn least(a: usize, b: usize) -> usize
@@ -121,8 +122,7 @@ fn fill(input: Source<'_>, raw: &mut [u8], want: usize) -> Filled {
                     return Filled {
                         bytes: have,
                         more: false,
-                        failed: false,
-                        error: 0,
+                        failed: None,
                     };
                 }
                 have += n;
@@ -131,8 +131,7 @@ fn fill(input: Source<'_>, raw: &mut [u8], want: usize) -> Filled {
                 return Filled {
                     bytes: have,
                     more: false,
-                    failed: true,
-                    error: messages::number_of(&e),
+                    failed: Some(e),
                 };
             }
         }
@@ -140,8 +139,7 @@ fn fill(input: Source<'_>, raw: &mut [u8], want: usize) -> Filled {
     Filled {
         bytes: have,
         more: true,
-        failed: false,
-        error: 0,
+        failed: None,
     }
 }
 
@@ -177,63 +175,58 @@ fn tallied(start: Tally, marks: &[u8], from: usize, to: usize) -> Tally {
 }
 
 // A float, and a blank.
-fn spaced(p: &mut [u8], start: usize, x: f32) -> usize {
-    let at = text::float(p, start, x);
-    text::words(p, at, b" ")
+fn spaced<const N: usize>(p: &mut Page<N>, x: f32) {
+    p.float(x);
+    p.words(b" ");
 }
 
 // A symbol and its mark in a line.
-fn line(p: &mut [u8], start: usize, re: f32, im: f32, mark: u8) -> usize {
-    let a = spaced(p, start, re);
-    let b = spaced(p, a, im);
-    let c = text::count(p, b, mark as u64);
-    text::words(p, c, b"\n")
+fn line(p: &mut Page<8192>, re: f32, im: f32, mark: u8) {
+    spaced(p, re);
+    spaced(p, im);
+    p.count(u64::from(mark));
+    p.words(b"\n");
 }
 
 // No line is as long.
 const LINE: usize = 128;
 
-// Writes a page that has no room for another line, and begins it anew. Answers how much of it is used.
-fn turned(to: &mut Sink<'_>, p: &[u8], at: usize) -> Result<usize> {
-    if at < p.len() {
-        if p.len() - at > LINE {
-            return Ok(at);
-        }
+// Writes a page that has no room for another line, and begins it anew.
+fn turned(to: &mut Sink<'_>, p: &mut Page<8192>) -> Result<()> {
+    if p.room() > LINE {
+        return Ok(());
     }
-    text::send(to, p, at)?;
-    Ok(0)
+    to.write_all(p.bytes())?;
+    p.clear();
+    Ok(())
 }
 
 // The symbols as lines of text.
 fn lines(output: Sink<'_>, y: &[f32], marks: &[u8], count: usize) -> Result<()> {
     let mut to = output;
-    let mut p = [0u8; 8192];
-    let mut at = 0;
-    let mut i = 0;
+    let mut p: Page<8192> = Page::new();
     let n = least(count, least(y.len() / 2, marks.len()));
-    while i < n {
-        at = line(&mut p, at, y[2 * i], y[2 * i + 1], marks[i]);
-        at = turned(&mut to, &p, at)?;
-        i += 1;
+    for i in 0..n {
+        line(&mut p, y[2 * i], y[2 * i + 1], marks[i]);
+        turned(&mut to, &mut p)?;
     }
-    text::send(&mut to, &p, at)
+    to.write_all(p.bytes())
 }
 
-pub fn mode(p: &mut [u8], at: usize, m: EqMode) -> usize {
+pub fn mode(m: EqMode) -> &'static [u8] {
     match m {
-        EqMode::Cma => text::words(p, at, b"cma"),
-        EqMode::Decision => text::words(p, at, b"decision"),
+        EqMode::Cma => b"cma",
+        EqMode::Decision => b"decision",
     }
 }
 
 // A point of the learning curve: the samples so far, the mean error and the mode.
-fn point(p: &mut [u8], start: usize, t: Tally, s: EqualizeState) -> usize {
-    let m = s.mode;
-    let a = text::count(p, start, t.samples);
-    let b = text::words(p, a, b" ");
-    let c = spaced(p, b, s.mse);
-    let d = mode(p, c, m);
-    text::words(p, d, b"\n")
+fn point(p: &mut Page<128>, t: Tally, s: EqualizeState) {
+    p.count(t.samples);
+    p.words(b" ");
+    spaced(p, s.mse);
+    p.words(mode(s.mode));
+    p.words(b"\n");
 }
 
 // Writes a point, where a curve is wanted.
@@ -242,14 +235,14 @@ fn drawn(curve: Sink<'_>, t: Tally, s: EqualizeState) -> Result<()> {
         return Ok(());
     }
     let mut to = curve;
-    let mut p = [0u8; 128];
-    let at = point(&mut p, 0, t, s);
-    text::send(&mut to, &p, at)
+    let mut p: Page<128> = Page::new();
+    point(&mut p, t, s);
+    to.write_all(p.bytes())
 }
 
 fn ended_by(got: Filled) -> Ending {
-    if got.failed {
-        return Ending::Unread(got.error);
+    if let Some(e) = got.failed {
+        return Ending::Unread(e);
     }
     if got.bytes % 8 != 0 {
         return Ending::Truncated(got.bytes % 8);
@@ -391,7 +384,7 @@ fn called(
                     state: next,
                     tally: t,
                 }),
-                Err(e) => Onward::End(Ending::Unwritten(2, messages::number_of(&e))),
+                Err(e) => Onward::End(Ending::Unwritten(2, e)),
             }
         }
     }
@@ -451,12 +444,12 @@ fn deliver(o: Ways, f: Files<'_>, out: &[u8], marks: &[u8], n: usize) -> Ending
     requires { 8 * n ≤ 32768 }
 {
     if let Err(e) = symbols(f.output, o.text, out, marks, n) {
-        return Ending::Unwritten(0, messages::number_of(&e));
+        return Ending::Unwritten(0, e);
     }
     if f.marks.is_wanted() {
         let mut to = f.marks;
         if let Err(e) = text::send(&mut to, marks, n) {
-            return Ending::Unwritten(1, messages::number_of(&e));
+            return Ending::Unwritten(1, e);
         }
     }
     Ending::Whole
@@ -549,6 +542,6 @@ pub fn all(
     }
     Done {
         progress: p,
-        ending: Ending::Unread(0),
+        ending: Ending::Unread(io::Error::from(io::ErrorKind::Other)),
     }
 }

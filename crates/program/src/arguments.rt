@@ -1,34 +1,34 @@
 // Arguments: options `--name value`, `--name=value` and `--name`.
-ghost use Rattle.std.specs.Prelude.{◌≡◌, not, ◌&&◌, nat_eq, IfOk};
-ghost use Rattle.io.specs.Counts.{IsPrefixLen};
+ghost use Rattle.std.specs.Prelude.{◌≡◌};
 
-pub use program_words::words::{NOT_THERE, name_end, place};
+use crate::text::Page;
+pub use program_words::words::{name_end, place};
 use std::env::{Env, FillError};
 
-// Where the text of a value stands: behind `from` bytes of argument `at`. Argument 0 names the program and is no value's.
-#[derive(Clone, Copy)]
+// The text of an argument, which has at most 4,096 bytes.
+pub type Text = Page<4096>;
+
+// Where the text of a value stands: behind `from` bytes of argument `at`.
+#[derive(Clone, Copy, PartialEq, Eq)]
 pub struct Value {
     pub at: usize,
     pub from: usize,
 }
 
-impl Value {
-    pub const NONE: Value = Value { at: 0, from: 0 };
+// All of an argument.
+impl From<usize> for Value {
+    ghost from_gives = { λ at v. (v.at ≡ at) × (v.from ≡ 0) };
 
-    // Standard input or output, which `-` names.
-    pub const STANDARD: Value = Value { at: 0, from: 1 };
-
-    pub fn is_file(self) -> bool
-        ensures { result ≡ not (nat_eq self.at 0) }
-    {
-        self.at != 0
+    fn from(at: usize) -> Value {
+        Value { at, from: 0 }
     }
+}
 
-    pub fn is_standard(self) -> bool
-        ensures { result ≡ nat_eq self.at 0 && nat_eq self.from 1 }
-    {
-        (self.at == 0) & (self.from == 1)
-    }
+// What an option of a file names: standard input or output, which `-` names, or a file.
+#[derive(Clone, Copy, PartialEq, Eq)]
+pub enum Name {
+    Standard,
+    File(Value),
 }
 
 // What is wrong with an argument.
@@ -42,27 +42,8 @@ pub enum Fault {
     NotTaken(usize),
     // Argument `at` is too long.
     Long(usize),
-    // The option at `at`, whose number is the second, does not take the value.
-    Unreadable(usize, usize, Value),
-}
-
-// Moves the bytes from `from` to `n` to the start of buf, and answers how many they are.
-fn moved(buf: &mut [u8], from: usize, n: usize) -> usize
-    ensures { IsPrefixLen result buf.new }
-{
-    if n > buf.len() {
-        return 0;
-    }
-    if from > n {
-        return 0;
-    }
-    let k = n - from;
-    let mut i = 0;
-    while i < k {
-        buf[i] = buf[from + i];
-        i += 1;
-    }
-    k
+    // The option at `at` does not take the value, but what the words say.
+    Unreadable(usize, Value, &'static [u8]),
 }
 
 // How many arguments there are, the program's name among them.
@@ -76,22 +57,19 @@ pub fn count(env: &impl Env) -> usize {
     usize::MAX
 }
 
-// Puts a value's text at the start of buf, and answers its length, where all of it is there.
-pub fn whole_text_of(env: &impl Env, v: Value, buf: &mut [u8]) -> Result<usize, FillError>
-    ensures { IfOk result (λ n. IsPrefixLen n buf.new) }
-{
-    match env.arg(v.at, buf) {
-        Ok(n) => Ok(moved(buf, v.from, n)),
-        Err(e) => Err(e),
-    }
+// A value's text, where all of it has room.
+pub fn whole_text_of(env: &impl Env, v: Value) -> Result<Text, FillError> {
+    let mut argument = io::buffer();
+    let n = env.arg(v.at, &mut argument)?;
+    let mut text = Page::new();
+    text.words(argument.get(v.from..n).unwrap_or(&[]));
+    Ok(text)
 }
 
-// Puts a value's text at the start of buf, and answers its length; 0 where not all of it is there.
-pub fn text_of(env: &impl Env, v: Value, buf: &mut [u8]) -> usize
-    ensures { IsPrefixLen result buf.new }
-{
-    match whole_text_of(env, v, buf) {
-        Ok(n) => n,
-        Err(_) => 0,
+// A value's text; empty where not all of it has room.
+pub fn text_of(env: &impl Env, v: Value) -> Text {
+    match whole_text_of(env, v) {
+        Ok(text) => text,
+        Err(_) => Page::new(),
     }
 }

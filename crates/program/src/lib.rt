@@ -1,6 +1,9 @@
 // What a program needs beside its own work: arguments and the numbers in them, text on its way out, messages, files, an exit status.
 #![tactic(auto)]
 
+ghost use Rattle.std.specs.Prelude.{◌≡◌};
+ghost use Rattle.program.specs.Status.{ExitStatus, status_number};
+
 pub mod arguments;
 pub mod files;
 pub mod messages;
@@ -9,8 +12,21 @@ pub use program_text::text;
 pub use program_words::numbers;
 
 // The exit status of a program: all was served; something failed; it was asked for what it does not do.
-pub const SERVED: i32 = 0;
+#[derive(Clone, Copy, PartialEq, Eq)]
+pub enum Status {
+    Served,
+    Failed,
+    Usage,
+}
 
-pub const FAILED: i32 = 1;
+impl From<Status> for i32 {
+    ghost from_gives = { λ status n. (n ≡ status_number status) × ExitStatus n };
 
-pub const USAGE: i32 = 2;
+    fn from(status: Status) -> i32 {
+        match status {
+            Status::Served => 0,
+            Status::Failed => 1,
+            Status::Usage => 2,
+        }
+    }
+}

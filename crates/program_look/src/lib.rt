@@ -5,8 +5,8 @@
 
 ghost use Rattle.std.specs.Prelude.{◌≡◌, IfSome, OnSome};
 ghost use Rattle.program_look.specs.Path.{Whole};
+ghost use Rattle.program_look.specs.Seen.{file_of};
 
-use program_words::words::end_of;
 use std::fs::{File, FileType, Files, Metadata};
 use std::io::{ErrorKind, Result};
 use std::os::unix::fs::{FileTypeExt, MetadataExt};
@@ -14,37 +14,52 @@ use std::os::unix::fs::{FileTypeExt, MetadataExt};
 // A path and the 0 behind it have at most as many bytes.
 const PATH_MAX: usize = 4096;
 
-// What stands at a path. A link stands for the file that it leads to, so a link to nowhere is
-// Missing. Device: of characters or of blocks. Other: a socket, and what has no kind of its own.
-// Hidden: it cannot be told, as where a folder of the path may not be searched, where a file stands
-// for a folder of the path, or where the path is none that the system can be handed.
-#[derive(Clone, Copy)]
+// What a file is. Device: of characters or of blocks. Other: a socket, and what has no kind of its own.
+#[derive(Clone, Copy, PartialEq, Eq)]
 pub enum Kind {
-    Missing,
     File,
     Folder,
     Fifo,
     Device,
     Other,
-    Hidden,
 }
 
-// Two paths lead to one file where device and inode agree. Both are 0 where the kind is Missing or
-// Hidden.
-#[derive(Clone, Copy)]
-pub struct Seen {
-    pub kind: Kind,
+// Two paths lead to one file where these agree.
+#[derive(Clone, Copy, PartialEq, Eq)]
+pub struct FileId {
     pub device: u64,
     pub inode: u64,
 }
 
+// What stands at a path. A link stands for the file that it leads to, so a link to nowhere is
+// Missing. Hidden: it cannot be told, as where a folder of the path may not be searched, where a
+// file stands for a folder of the path, or where the path is none that the system can be handed.
+#[derive(Clone, Copy, PartialEq, Eq)]
+pub enum Seen {
+    Missing,
+    There(Kind, FileId),
+    Hidden,
+}
+
+impl Seen {
+    // Which file is there, where one is.
+    pub fn file(self) -> Option<FileId>
+        ensures { result ≡ file_of self }
+    {
+        match self {
+            Seen::There(_, file) => Some(file),
+            Seen::Missing | Seen::Hidden => None,
+        }
+    }
+}
+
 // What stands at path. A path of 4096 bytes or more, with a 0 in it, or that is not UTF-8, is Hidden.
 pub fn look(files: &impl Files, path: &[u8]) -> Seen
-    ensures { (Whole path.now → ⊥) → result.kind ≡ Kind.Hidden }
+    ensures { (Whole path.now → ⊥) → result ≡ Seen.Hidden }
 {
     match handed(path) {
         Some(name) => seen_of(files.metadata(name)),
-        None => unseen(Kind::Hidden),
+        None => Seen::Hidden,
     }
 }
 
@@ -68,10 +83,7 @@ fn handed(path: &[u8]) -> Option<&str>
     ensures text { IfSome result (λ name. name.now ≡ path.now) }
     ensures whole { OnSome result (Whole path.now) }
 {
-    if path.len() >= PATH_MAX {
-        return None;
-    }
-    if end_of(path, 0, 0) < path.len() {
+    if path.len() >= PATH_MAX || path.contains(&0) {
         return None;
     }
     str::from_utf8(path).ok()
@@ -79,27 +91,20 @@ fn handed(path: &[u8]) -> Option<&str>
 
 fn seen_of(found: Result<Metadata>) -> Seen {
     match found {
-        Ok(of) => Seen {
-            kind: kind_of(of.file_type()),
-            device: of.dev(),
-            inode: of.ino(),
-        },
+        Ok(of) => {
+            let file = FileId {
+                device: of.dev(),
+                inode: of.ino(),
+            };
+            Seen::There(kind_of(of.file_type()), file)
+        }
         Err(e) => {
             if e.kind() == ErrorKind::NotFound {
-                return unseen(Kind::Missing);
+                Seen::Missing
+            } else {
+                Seen::Hidden
             }
-            unseen(Kind::Hidden)
         }
-    }
-}
-
-fn unseen(kind: Kind) -> Seen
-    ensures { result.kind ≡ kind }
-{
-    Seen {
-        kind: kind,
-        device: 0,
-        inode: 0,
     }
 }
 
@@ -110,9 +115,7 @@ fn kind_of(found: FileType) -> Kind {
         Kind::Folder
     } else if found.is_fifo() {
         Kind::Fifo
-    } else if found.is_char_device() {
-        Kind::Device
-    } else if found.is_block_device() {
+    } else if found.is_char_device() || found.is_block_device() {
         Kind::Device
     } else {
         Kind::Other

@@ -1,33 +1,19 @@
--- The text of a number among those that line ends divide a list into, from one line end to the next. Assumes nothing.
-use Rattle.std.proofs.Common.{◌≡◌, ℕ, zero, suc, ◌+◌, ◌-◌, ◌<◌, ◌≤◌, Bool, true, false, eqb, List, [], ◌∷◌, length, get_or, take, drop, refl, arith, eqb-true}
-use borrow.Author.Tests.{eqb-false}
-use Rattle.program_words.specs.Words.{divided}
-use Rattle.program_words.proofs.Texts.{past, text-more, text-last, none_left}
+-- The text of a number among those that line ends divide a list into is that part of a split. Assumes nothing.
+use Rattle.std.proofs.Common.{◌≡◌, ℕ, zero, suc, eqb, List, [], ◌∷◌, Option, Some, None, unwrap_or, option_map, Bor, refl, ◌∙◌}
+use Rattle.std.specs.List.{slice_get, slice_split, slice_index_or}
+use Rattle.program_words.proofs.Texts.{divided_is}
+use Rattle.program_text.specs.Pages.{entry_of}
 
-pub entry_start : (l : List ℕ) (number : ℕ) → get_or (divided 10 l) number [] ≡ get_or (divided 10 l) (number - 0) []
-entry_start l number = let z : number - 0 ≡ number = omega arith in rw z
+at_is : (ts : List (List ℕ)) (n : ℕ) → unwrap_or (slice_get ts n) [] ≡ slice_index_or ts n []
+at_is [] n = refl
+at_is (t ∷ ts) zero = refl
+at_is (t ∷ ts) (suc n) = at_is ts n
 
-module _ (l : List ℕ) (from : ℕ) (h : from ≤ length l) (end : ℕ) (e : end ≡ past 10 l from) where
-  first_by : (c : Bool) → eqb end (length l) ≡ c → get_or (divided 10 (drop from l)) 0 [] ≡ take (end - from) (drop from l)
-  first_by true q = rw (text-last 10 l from h end e (eqb-true end (length l) q))
-  first_by false q = rw (text-more 10 l from h end e (eqb-false end (length l) q))
+pub entry_is : (l : List ℕ) (n : ℕ) → unwrap_or (slice_get (slice_split (λ b. eqb b 10) l) n) [] ≡ entry_of l n
+unfolding entry_of
+entry_is l n = at_is (slice_split (λ b. eqb b 10) l) n ∙ rw (divided_is 10 l)
 
-  -- this one
-  pub entry_here : (k : ℕ) → k ≡ 0 → get_or (divided 10 (drop from l)) k [] ≡ take (end - from) (drop from l)
-  entry_here k z = rw z (first_by (eqb end (length l)) refl)
-
-  -- a later one
-  pub entry_next : (end ≡ length l → ⊥) → (k j : ℕ) → k ≡ suc j → get_or (divided 10 (drop from l)) k [] ≡ get_or (divided 10 (drop (end + 1) l)) j []
-  entry_next m k j z = rw (z, text-more 10 l from h end e m)
-
-  -- there is no later one
-  pub entry-last : end ≡ length l → (k : ℕ) → 0 < k → get_or (divided 10 (drop from l)) k [] ≡ []
-  entry-last m zero z = absurd (omega arith)
-  entry-last m (suc k) z = rw (text-last 10 l from h end e m)
-
-none_at : (k : ℕ) → ◌≡◌ {A = List ℕ} (get_or ([] ∷ []) k []) []
-none_at zero = refl
-none_at (suc k) = refl
-
-pub entry_none : (l : List ℕ) (from k : ℕ) → length l ≤ from → get_or (divided 10 (drop from l)) k [] ≡ []
-entry_none l from k h = rw (none_left 10 l from h) (none_at k)
+-- what a reference leads to, or what its stand-in does
+pub now_or : (o : Option (Bor (List ℕ))) (d : Bor (List ℕ)) → (unwrap_or o d).now ≡ unwrap_or (option_map (λ (x : Bor (List ℕ)). x.now) o) d.now
+now_or None d = refl
+now_or (Some x) d = refl

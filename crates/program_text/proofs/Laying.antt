@@ -1,6 +1,6 @@
 -- A text laid on a page byte by byte. Assumes nothing.
-use Rattle.std.proofs.Common.{◌≡◌, ℕ, zero, suc, ◌+◌, ◌<◌, ◌≤◌, Bool, true, false, ltb, List, [], ◌∷◌, length, get_or, drop, set, sym, refl, ap, ◌∙◌, add-one, arith, drop_of_length-le, drop-cons, ltb-false, ltb-true}
-use Rattle.program_text.specs.Pages.{laid, reached}
+use Rattle.std.proofs.Common.{◌≡◌, ℕ, zero, suc, ◌+◌, ◌<◌, ◌≤◌, max, min, Bool, true, false, ltb, List, [], ◌∷◌, ◌++◌, take, length, get_or, drop, set, sym, refl, ap, ◌∙◌, add-one, arith, drop_of_length-le, drop-cons, ltb-false, ltb-true}
+use Rattle.program_text.specs.Pages.{laid, reached, LaidAs, written}
 
 -- the page keeps its length
 pub laid_length : (p : List ℕ) (at : ℕ) (t : List ℕ) → length (laid p at t) ≡ length p
@@ -81,17 +81,25 @@ module _ (q p t : List ℕ) (i start at : ℕ) where
   pub reached-end : reached q start t ≡ reached p at (drop i t) → length t ≤ i → at ≡ reached q start t
   reached-end e h = sym (e ∙ rw (drop_of_length-le t h) (sym (reached_none p at)))
 
--- an empty text
-pub laid_empty : (p q : List ℕ) (at : ℕ) {t : List ℕ} → q ≡ p → t ≡ [] → q ≡ laid p at t
-laid_empty p q at e z = rw z (e ∙ sym (laid_none p at))
+-- what stands on the page then, from its start
+page_by : (p : List ℕ) (at : ℕ) (t : List ℕ) (n : ℕ) → at ≤ length p → n ≡ max at (min (at + length t) (length p)) → take n (laid p at t) ≡ take (length p) (take at p ++ t)
+unfolding laid
+page_by [] zero t zero h e = refl
+page_by [] zero t (suc n) h e = absurd (omega arith)
+page_by [] (suc at) t n h e = absurd (omega arith)
+page_by (a ∷ p) (suc at) t zero h e = absurd (omega arith)
+page_by (a ∷ p) (suc at) t (suc n) h e = ap (λ l. a ∷ l) (page_by p at t n (omega arith) (omega arith))
+page_by (a ∷ p) zero [] zero h e = refl
+page_by (a ∷ p) zero [] (suc n) h e = absurd (omega arith)
+page_by (a ∷ p) zero (b ∷ t) zero h e = absurd (omega arith)
+page_by (a ∷ p) zero (b ∷ t) (suc n) h e = ap (λ l. b ∷ l) (page_by p zero t n (omega arith) (omega arith))
 
-pub reached_empty : (p : List ℕ) (at : ℕ) {t : List ℕ} → t ≡ [] → at ≡ reached p at t
-reached_empty p at z = rw z (reached_none p at)
+-- a text laid behind what is used is written there
+module _ (N : ℕ) (p : List ℕ) (at : ℕ) (t : List ℕ) (q : List ℕ) (n : ℕ) (k : length p ≡ N) (h : at ≤ N) (w : LaidAs p at t q n) where
+  pub words_are : (s : List ℕ) → take at p ≡ s → take n q ≡ written N s t
+  unfolding written reached
+  words_are s v = rw (w.0) (page_by p at t n (omega arith) w.1 ∙ rw (k, v))
 
--- the same text on the same page
-module _ (p q : List ℕ) (at : ℕ) (s t : List ℕ) (e : p ≡ q) (f : s ≡ t) where
-  pub laid_same : laid p at s ≡ laid q at t
-  laid_same = rw (e, f)
-
-  pub reached-same : reached p at s ≡ reached q at t
-  reached-same = rw (e, f)
+  pub used_most : n ≤ N
+  unfolding reached
+  used_most = omega (arith, w.1)

@@ -1,5 +1,5 @@
 -- Text on a page, which is a list of bytes that keeps its length.
-use Rattle.std.specs.Prelude.{◌≡◌, ℕ, zero, suc, ◌+◌, ◌/◌, ◌%◌, min, max, cond, List, [], ◌∷◌, ◌++◌, length, nat_lt, slice_index_or}
+use Rattle.std.specs.Prelude.{◌≡◌, ℕ, zero, suc, ◌+◌, ◌/◌, ◌%◌, min, max, cond, List, [], ◌∷◌, ◌++◌, length, nat_lt, slice_index_or, take}
 use Rattle.program_words.specs.Words.{divided}
 
 -- The page with a text laid over it from a place on, as far as the page reaches.
@@ -16,6 +16,10 @@ reached p at t = max at (min (at + length t) (length p))
 -- A text was laid: the page then, and the place behind the text.
 abbrev pub LaidAs : List ℕ → ℕ → List ℕ → List ℕ → ℕ → Type 0
 LaidAs p at t after next = (after ≡ laid p at t) × (next ≡ reached p at t)
+
+-- What stands on a page of n bytes where a text is written behind another: what finds no room is left out.
+unfoldable pub written : ℕ → List ℕ → List ℕ → List ℕ
+written n s t = take n (s ++ t)
 
 -- The decimal digits of a number, the highest first, with no zero in front of another digit; at most as many as the first number says.
 unfoldable pub numeral_in : ℕ → ℕ → List ℕ

@@ -1,6 +1,6 @@
 -- Known values of each definition.
 use Rattle.std.specs.Prelude.{◌≡◌, ℕ, List, [], ◌∷◌}
-use Rattle.program_text.specs.Pages.{LaidAs, numeral, entry_of}
+use Rattle.program_text.specs.Pages.{LaidAs, written, numeral, entry_of}
 
 -- a page of three bytes
 abbrev page : List ℕ
@@ -11,6 +11,12 @@ abbrev pub LaidRows : Type 0
 LaidRows =
     LaidAs page 1 (9 ∷ []) (1 ∷ 9 ∷ 3 ∷ []) 2 × LaidAs page 0 (7 ∷ 8 ∷ 9 ∷ []) (7 ∷ 8 ∷ 9 ∷ []) 3 × LaidAs page 2 (8 ∷ 9 ∷ []) (1 ∷ 2 ∷ 8 ∷ []) 3
     × LaidAs page 3 (9 ∷ []) page 3 × LaidAs page 5 (9 ∷ []) page 5 × LaidAs [] 0 (9 ∷ []) [] 0 × LaidAs page 1 [] page 1
+
+-- on an empty page of three bytes; behind a text; past the end, where it is cut; on a full page; nothing
+abbrev pub WrittenRows : Type 0
+WrittenRows =
+    (written 3 [] (7 ∷ 8 ∷ []) ≡ 7 ∷ 8 ∷ []) × (written 3 (7 ∷ []) (8 ∷ 9 ∷ []) ≡ 7 ∷ 8 ∷ 9 ∷ []) × (written 3 (7 ∷ 8 ∷ []) (9 ∷ 9 ∷ []) ≡ 7 ∷ 8 ∷ 9 ∷ [])
+    × (written 3 page (9 ∷ []) ≡ page) × (written 3 (7 ∷ []) [] ≡ 7 ∷ [])
 
 -- 0, 7, 10, 1066, 2^64 - 1
 abbrev pub NumeralRows : Type 0

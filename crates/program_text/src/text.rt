@@ -1,9 +1,27 @@
-// Text on its way out: a page, and how many of its bytes are used. What finds no room is left out.
-ghost use Rattle.std.specs.Prelude.{[], ◌∷◌};
-ghost use Rattle.program_text.specs.Pages.{LaidAs, numeral, entry_of};
+// Text on its way out: a page, from its start on. What finds no room is left out.
+ghost use Rattle.std.specs.Prelude.{◌≡◌, ℕ, ◌-◌, ◌≤◌, List, [], ◌∷◌, length, take};
+ghost use Rattle.program_text.specs.Pages.{LaidAs, written, numeral, entry_of};
 
-use program_words::words::end_of;
-use std::io::{Error, ErrorKind, Result, Write};
+use std::fmt;
+use std::fmt::Write;
+use std::io::{Error, ErrorKind, Result};
+use std::marker::Model;
+
+// A page of N bytes, and how many of them are used.
+#[derive(Drop)]
+pub struct Page<const N: usize> {
+    bytes: [u8; N],
+    used: usize,
+}
+
+// Clauses see what stands on the page.
+impl<const N: usize> Model for Page<N> {
+    ghost Value = { List ℕ };
+
+    ghost view = { λ p. take p.used p.bytes };
+
+    ghost invariant = { λ p. p.used ≤ N };
+}
 
 fn byte(p: &mut [u8], at: usize, b: u8) -> usize
     ensures { LaidAs p.old at (b ∷ []) p.new result }
@@ -16,156 +34,139 @@ fn byte(p: &mut [u8], at: usize, b: u8) -> usize
 }
 
 // A text from a place on. Answers the place behind it.
-pub fn words(p: &mut [u8], start: usize, t: &[u8]) -> usize
+fn lay(p: &mut [u8], start: usize, t: &[u8]) -> usize
     ensures { LaidAs p.old start t.now p.new result }
 {
     let mut at = start;
-    let mut i = 0;
-    while i < t.len() {
-        at = byte(p, at, t[i]);
-        i += 1;
+    for b in t {
+        at = byte(p, at, *b);
     }
     at
 }
 
-// The text of a number in a list of texts with a line end behind each, counted from 0.
-pub fn entry(p: &mut [u8], start: usize, list: &[u8], number: usize) -> usize
-    ensures { LaidAs p.old start (entry_of list.now number) p.new result }
-{
-    let mut n = 0;
-    let mut from = 0;
-    while from < list.len() {
-        let end = end_of(list, from, b'\n');
-        if n == number {
-            return words(p, start, &list[from..end]);
+impl<const N: usize> Page<N> {
+    // An empty page.
+    pub fn new() -> Self
+        ensures { result ≡ [] }
+    {
+        Page {
+            bytes: [0; N],
+            used: 0,
         }
-        if end == list.len() {
-            return start;
-        }
-        n += 1;
-        from = end + 1;
     }
-    start
+
+    pub fn clear(&mut self)
+        ensures { self.new ≡ [] }
+    {
+        self.used = 0;
+    }
+
+    // How many bytes find room.
+    pub fn room(&self) -> usize
+        ensures { result ≡ N - length self.now }
+    {
+        N - self.used
+    }
+
+    // What stands on the page.
+    pub fn bytes(&self) -> &[u8]
+        ensures { result.now ≡ self.now }
+    {
+        &self.bytes[..self.used]
+    }
+
+    pub fn words(&mut self, t: &[u8])
+        ensures { self.new ≡ written N self.old t.now }
+    {
+        self.used = lay(&mut self.bytes, self.used, t);
+    }
+
+    // The text of a number in a list of texts with a line end behind each, counted from 0.
+    pub fn entry(&mut self, list: &[u8], number: usize)
+        ensures { self.new ≡ written N self.old (entry_of list.now number) }
+    {
+        self.words(list.split(|b| *b == b'\n').nth(number).unwrap_or(&[]));
+    }
+
+    // A number in decimal digits.
+    pub fn count(&mut self, n: u64)
+        ensures { self.new ≡ written N self.old (numeral n) }
+    {
+        let mut d = [0u8; 20];
+        let k = io::decimal(n, &mut d);
+        self.words(&d[..k]);
+    }
+
+    // x in scientific notation with nine digits; a zero, an infinity and a NaN are `0`, `inf` and `nan`, the first two with their sign.
+    pub fn float(&mut self, x: f32) {
+        if x.is_nan() {
+            return self.words(b"nan");
+        }
+        if x.is_sign_negative() {
+            self.words(b"-");
+        }
+        if x == 0.0 {
+            self.words(b"0");
+        } else if x.is_infinite() {
+            self.words(b"inf");
+        } else {
+            self.magnitude(std::num::f32_to_f64_with_nan(x.abs()));
+        }
+    }
+
+    fn magnitude(&mut self, v: f64) {
+        let Scaled { digits, exponent } = nine_digits(v);
+        let mut d = [0u8; 20];
+        io::decimal(digits, &mut d);
+        self.words(&[d[0], b'.']);
+        self.words(&d[1..9]);
+        let _ = write!(self, "e{exponent}");
+    }
 }
 
-// A number in decimal digits.
-pub fn count(p: &mut [u8], at: usize, n: u64) -> usize
-    ensures { LaidAs p.old at (numeral n) p.new result }
-{
-    let mut d = [0u8; 20];
-    let k = io::decimal(n, &mut d);
-    words(p, at, &d[..k])
+// So that `write!` serves; what finds no room is no error.
+impl<const N: usize> Write for Page<N> {
+    ghost write_str_gives = { λ p t q. q ≡ written N p t };
+
+    fn write_str(&mut self, s: &str) -> fmt::Result {
+        self.words(s.as_bytes());
+        Ok(())
+    }
 }
 
-// A magnitude as nine digits and an exponent, which is 100 less than what is held.
+// A magnitude as nine digits and an exponent.
 #[derive(Clone, Copy)]
 struct Scaled {
     digits: u64,
-    exponent: u64,
-}
-
-fn rounded(v: f64) -> u64 {
-    if v > -1.0 {
-        if v < 18446744073709551616.0 {
-            return std::num::truncating_f64_to_u64(v);
-        }
-    }
-    0
-}
-
-fn more(e: u64) -> u64 {
-    if e < 200 { e + 1 } else { e }
-}
-
-fn less(e: u64) -> u64 {
-    if e > 0 { e - 1 } else { e }
+    exponent: i32,
 }
 
 // Brought between 10^8 and 10^9 by steps of ten. Each step rounds, by some 10^-16 of the value at most, so that the ninth digit is the
 // nearest but for a near tie; nine digits tell any two f32 apart.
 fn nine_digits(x: f64) -> Scaled {
     let mut v = x;
-    let mut e = 108u64;
-    let mut i = 0u64;
-    while i < 64 {
+    let mut exponent = 8i32;
+    for _ in 0..64 {
         if v >= 999999999.5 {
             v = v / 10.0;
-            e = more(e);
+            exponent = exponent.saturating_add(1);
         } else if v < 99999999.95 {
             v = v * 10.0;
-            e = less(e);
+            exponent = exponent.saturating_sub(1);
         } else {
-            return Scaled {
-                digits: rounded(v + 0.5),
-                exponent: e,
-            };
+            break;
         }
-        i += 1;
     }
     Scaled {
-        digits: rounded(v + 0.5),
-        exponent: e,
+        digits: std::num::saturating_f64_to_u64(v + 0.5),
+        exponent,
     }
-}
-
-fn exponent(p: &mut [u8], start: usize, e: u64) -> usize {
-    let at = byte(p, start, b'e');
-    if e < 100 {
-        let minus = byte(p, at, b'-');
-        return count(p, minus, 100 - e);
-    }
-    count(p, at, e - 100)
-}
-
-// The second to the ninth digit.
-fn decimals(p: &mut [u8], start: usize, d: &[u8; 20]) -> usize {
-    let mut at = start;
-    let mut i = 1;
-    while i < 9 {
-        at = byte(p, at, d[i]);
-        i += 1;
-    }
-    at
-}
-
-fn magnitude(p: &mut [u8], start: usize, v: f64) -> usize {
-    let s = nine_digits(v);
-    let mut d = [0u8; 20];
-    io::decimal(s.digits, &mut d);
-    let point = byte(p, start, d[0]);
-    let second = byte(p, point, b'.');
-    let last = decimals(p, second, &d);
-    exponent(p, last, s.exponent)
-}
-
-fn sign(p: &mut [u8], start: usize, minus: bool) -> usize {
-    if minus {
-        return byte(p, start, b'-');
-    }
-    start
-}
-
-// x in scientific notation with nine digits; a zero, an infinity and a NaN are `0`, `inf` and `nan`, the first two with their sign.
-pub fn float(p: &mut [u8], start: usize, x: f32) -> usize {
-    if x != x {
-        return words(p, start, b"nan");
-    }
-    let minus = x < 0.0 || 1.0 / x < 0.0;
-    let at = sign(p, start, minus);
-    let v = if minus { -x } else { x };
-    if v == 0.0 {
-        return byte(p, at, b'0');
-    }
-    if v - v != 0.0 {
-        return words(p, at, b"inf");
-    }
-    magnitude(p, at, std::num::f32_to_f64_with_nan(v))
 }
 
 // Writes the first `used` bytes of a page.
-pub fn send<W: Write>(to: &mut W, p: &[u8], used: usize) -> Result<()> {
-    if used <= p.len() {
-        return to.write_all(&p[..used]);
+pub fn send<W: std::io::Write>(to: &mut W, p: &[u8], used: usize) -> Result<()> {
+    match p.get(..used) {
+        Some(t) => to.write_all(t),
+        None => Err(Error::from(ErrorKind::InvalidInput)),
     }
-    Err(Error::from(ErrorKind::InvalidInput))
 }

@@ -3,20 +3,16 @@ use Rattle.std.proofs.Common.{◌≡◌, ℕ, zero, suc, ◌+◌, ◌<◌, ◌�
 use Rattle.std.specs.List.{position, position_or_len, position_from, slice_split, onto_first, count_by}
 use Rattle.std.specs.Cmp.Lexicographic.{pointwise}
 use Rattle.std.proofs.lemmas.List.Recursion.{is_position_or_len}
-use Rattle.std.proofs.lemmas.List.Sums.{fails_before_first, prefix_len-le-length}
+use Rattle.std.proofs.lemmas.List.Sums.{prefix_len-le-length}
 use Rattle.std.proofs.lemmas.List.Splits.{length-slice_split}
 use Rattle.std.proofs.lemmas.Iterator.Adapters.{position_from-zero}
-use borrow.Author.Tests.{eqb-false, ltb-false}
+use borrow.Author.Tests.{ltb-false}
 use Rattle.program_words.specs.Words.{before, onto, divided, same_of, place_in_from, place_in}
 
 -- the bytes before the first d are those before the first that passes
 pub before_is : (d : ℕ) (l : List ℕ) → before d l ≡ position_or_len (λ b. eqb b d) l
 unfolding before
 before_is d l = is_position_or_len (before d) (λ b. eqb b d) refl (λ b t. ap (λ (n : ℕ). cond (eqb b d) 0 n) (omega arith)) l
-
--- no byte is d where all stand before the first
-pub before_none : (d : ℕ) (l : List ℕ) → length l ≤ before d l → (j : ℕ) → j < length l → get_or l j 0 ≡ d → ⊥
-before_none d l h j k e = eqb-false _ _ (fails_before_first (λ b. eqb b d) l j 0 (omega (arith, before_is d l))) e
 
 pub before_most : (d : ℕ) (l : List ℕ) → before d l ≤ length l
 before_most d l = rw (before_is d l) (prefix_len-le-length _ l)

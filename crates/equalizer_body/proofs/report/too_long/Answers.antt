@@ -2,5 +2,5 @@
 use Rattle.std.proofs.Common.{arith, length-take}
 use Rattle.equalizer_body.proofs.report.too_long.Goals as goal
 
-pub slice_bounds-words-end-2 : goal.slice_bounds-words-end-2
-slice_bounds-words-end-2 c = simp length-take (omega (arith, c.buffer-name.ensures))
+pub slice_bounds-start-end : goal.slice_bounds-start-end
+slice_bounds-start-end c = simp length-take (omega (arith, c.buffer-argument.ensures))
