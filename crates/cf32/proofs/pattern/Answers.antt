@@ -1,10 +1,7 @@
 -- `cf32::pattern` gives the pattern of a float: the NaN's is written, and any other is no NaN. Assumes nothing.
-use Rattle.laws.specs.NoNan.{is_number}
+use mathlib.Core.Path.{sym, ◌∙◌}
 use Rattle.cf32.proofs.Words.{nan_written}
 use Rattle.cf32.proofs.pattern.Goals as goal
 
-pub returns-then-x : goal.returns-then-x
-returns-then-x c = nan_written _ c.if-x.true
-
-pub float_to_bits-result : goal.float_to_bits-result
-float_to_bits-result c = is_number _ c.if-x.false
+pub returns-then-is_nan : goal.returns-then-is_nan
+returns-then-is_nan c = nan_written _ (sym c.is_nan.ensures.value ∙ c.if-is_nan.true)
