@@ -4,6 +4,8 @@
 ghost use Rattle.std.specs.Prelude.{◌≡◌, ◌+◌, ◌*◌, ◌/◌, ◌≤◌, min, length};
 ghost use Rattle.cf32.specs.Bytes.{word_at, float_of, pattern_of, read_into, write_over};
 
+use std::num::{f32_from_bits_with_nan, f32_to_bits_with_nan};
+
 // The word at place i of the bytes.
 fn word_at(b: &[u8], i: usize) -> u32
     requires { 4 * i + 4 ≤ length b.now }
@@ -16,20 +18,14 @@ fn word_at(b: &[u8], i: usize) -> u32
 fn float(w: u32) -> f32
     ensures { result ≡ float_of w }
 {
-    if w % 0x8000_0000 > 0x7f80_0000 {
-        return f32::NAN;
-    }
-    f32::from_bits(w)
+    f32_from_bits_with_nan(w)
 }
 
 // The pattern of a float; every NaN is written alike.
 fn pattern(x: f32) -> u32
     ensures { result ≡ pattern_of x }
 {
-    if x.is_nan() {
-        return 0x7fc0_0000;
-    }
-    x.to_bits()
+    f32_to_bits_with_nan(x)
 }
 
 // How many floats the bytes make, as far as there is room.
