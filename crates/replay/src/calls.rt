@@ -2,222 +2,132 @@
 // one another; then what the calls give and leave:
 // record, taps n, samples k1 and k2 of the calls, n weights, n window values, k1 + k2 samples;
 // k1 + k2 symbols, their marks, record, n weights, n window values.
-ghost use Rattle.std.specs.Prelude.{◌≡◌, ◌+◌, ◌≤◌, length};
-ghost use Rattle.replay.specs.Buffers.{Lent};
+ghost use Rattle.std.specs.Prelude.{◌≡◌, ◌+◌, ◌*◌, ◌≤◌, length};
 
 use crate::records;
-use crate::records::Found;
-use crate::words::{Floats, Words, floats, same_floats};
-use types::{EqualizeState, Equalized, Outcome};
+use crate::records::{Left, Record};
+use crate::words::{floats, same_floats};
+use types::{EqualizeState, Equalized};
 
 const MOST_TAPS: u64 = 128;
 
 const MOST_SAMPLES: u64 = 4096;
 
-// How many words marks take: eight marks to a word.
-fn mark_words(samples: usize) -> usize
-    requires { samples ≤ 4096 }
-    ensures { result ≤ 512 }
-{
-    (samples + 7) / 8
+// The words of a line. The first call takes k1 of k samples.
+#[derive(Clone, Copy)]
+struct Case<'a> {
+    record: &'a Record,
+    k1: usize,
+    k: usize,
+    weights: &'a [u64],
+    window: &'a [u64],
+    samples: &'a [u64],
+    symbols: &'a [u64],
+    marks: &'a [u64],
+    left: Left<'a>,
+    ghost first: { k1 ≤ k },
+    ghost all: { k ≤ 4096 },
+    ghost samples_len: { length samples.now ≡ 2 * k },
+    ghost weights_len: { length weights.now ≤ 256 },
+    ghost window_len: { length window.now ≤ 256 },
 }
 
-// How many words a line has; 0 where the sizes are out of range.
-pub(crate) fn words_of(w: &Words) -> usize {
-    let n = w[14];
-    let k1 = w[15];
-    let k2 = w[16];
-    if n > MOST_TAPS {
-        return 0;
+impl Case<'_> {
+    fn of(w: &[u64]) -> Option<Case<'_>> {
+        let (record, w) = w.split_first_chunk()?;
+        let (sizes, mut w) = w.split_first_chunk()?;
+        let [n, k1, k2]: [u64; 3] = *sizes;
+        if n > MOST_TAPS || k1 > MOST_SAMPLES || k2 > MOST_SAMPLES - k1 {
+            return None;
+        }
+        let parts = 2 * (n as usize);
+        let k = (k1 + k2) as usize;
+        let weights = w.split_off(..parts)?;
+        let window = w.split_off(..parts)?;
+        let samples = w.split_off(..2 * k)?;
+        let symbols = w.split_off(..2 * k)?;
+        let marks = w.split_off(..k.div_ceil(8))?;
+        let (last, mut w) = w.split_first_chunk()?;
+        let left = Left {
+            record: last,
+            weights: w.split_off(..parts)?,
+            window: w.split_off(..parts)?,
+        };
+        if !w.is_empty() {
+            return None;
+        }
+        Some(Case {
+            record,
+            k1: k1 as usize,
+            k,
+            weights,
+            window,
+            samples,
+            symbols,
+            marks,
+            left,
+        })
     }
-    if k1 > MOST_SAMPLES {
-        return 0;
-    }
-    if k2 > MOST_SAMPLES - k1 {
-        return 0;
-    }
-    let k = (k1 + k2) as usize;
-    31 + 8 * (n as usize) + 4 * k + mark_words(k)
 }
 
 // The marks of a word stand in its digits, the first in the highest.
-fn mark_of(word: u64, i: usize) -> u8 {
-    ((word >> (28 - 4 * ((i % 8) as u64))) % 16) as u8
+fn mark_of(word: u64, i: u64) -> u8 {
+    ((word >> (28 - 4 * (i % 8))) % 16) as u8
 }
 
-// Whether the first `count` marks are those of the words, and the last word's other digits 0.
-fn same_marks(marks: &[u8; 4096], w: &Words, from: usize, count: usize) -> bool
-    requires { (count ≤ 4096) × (from + 512 ≤ 18000) }
+// Whether a word holds at most eight marks, and 0 in its other digits.
+fn same_word(marks: &[u8], word: u64) -> bool {
+    (0..8u64).all(|i| marks.get(i as usize).copied().unwrap_or(0) == mark_of(word, i))
+}
+
+fn same_marks(marks: &[u8], words: &[u64]) -> bool {
+    marks.chunks(8).zip(words).all(|(m, w)| same_word(m, *w))
+}
+
+// Whether two calls of `equalize` give and leave what the line says. Output and marks start from what no call writes.
+fn replayed<E>(case: Case<'_>, start: EqualizeState, equalize: E) -> bool
+where
+    E: Fn(EqualizeState, &mut [f32], &mut [f32], &[f32], &mut [f32], &mut [u8]) -> Equalized,
+    requires { E.IsAlwaysCallable equalize }
 {
-    let end = 8 * mark_words(count);
-    let mut i = 0;
-    while i < end {
-        let mark = if i < count { marks[i] } else { 0 };
-        if mark != mark_of(w[from + i / 8], i) {
-            return false;
-        }
-        i += 1;
-    }
-    true
-}
-
-// The plain path, or the quick and the joint path.
-fn by_path(
-    plain: bool,
-    state: EqualizeState,
-    weights: &mut [f32],
-    window: &mut [f32],
-    input: &[f32],
-    output: &mut [f32],
-    marks: &mut [u8],
-) -> Equalized {
-    if plain {
-        equalize::reference::equalize(state, weights, window, input, output, marks)
-    } else {
-        equalize::equalize(state, weights, window, input, output, marks)
-    }
-}
-
-// One call, on the samples from `a` to `e`.
-fn call(
-    plain: bool,
-    state: EqualizeState,
-    weights: &mut [f32],
-    window: &mut [f32],
-    parts: usize,
-    input: &[f32],
-    output: &mut [f32],
-    marks: &mut [u8],
-    a: usize,
-    e: usize,
-) -> Equalized
-    requires lent { Lent (length weights.old) (length window.old) (length output.old) (length marks.old) }
-    requires input_len { (length input.now ≡ 8192) × ((parts ≤ 8192) × ((a ≤ e) × (e ≤ 4096))) }
-    ensures { Lent (length weights.new) (length window.new) (length output.new) (length marks.new) }
-{
-    let a2 = 2 * a;
-    let e2 = 2 * e;
-    by_path(
-        plain,
-        state,
-        &mut weights[..parts],
-        &mut window[..parts],
-        &input[a2..e2],
-        &mut output[a2..e2],
-        &mut marks[a..e],
-    )
-}
-
-// What two calls give.
-#[derive(Clone, Copy)]
-struct Both {
-    first: Outcome,
-    last: Equalized,
-}
-
-// Two calls, of the first k1 and of the rest of k samples.
-fn two_calls(
-    plain: bool,
-    state: EqualizeState,
-    weights: &mut [f32],
-    window: &mut [f32],
-    parts: usize,
-    input: &[f32],
-    output: &mut [f32],
-    marks: &mut [u8],
-    k1: usize,
-    k: usize,
-) -> Both
-    requires lent { Lent (length weights.old) (length window.old) (length output.old) (length marks.old) }
-    requires input_len { (length input.now ≡ 8192) × ((parts ≤ 8192) × ((k1 ≤ k) × (k ≤ 4096))) }
-{
-    let first = call(
-        plain, state, weights, window, parts, input, output, marks, 0, k1,
-    );
-    let between = first.state;
-    let last = call(
-        plain, between, weights, window, parts, input, output, marks, k1, k,
-    );
-    let one = first.outcome;
-    Both { first: one, last }
-}
-
-fn served(o: Outcome) -> bool {
-    match o {
-        Outcome::Served => true,
-        Outcome::Refused(_) => false,
-    }
-}
-
-// Whether two calls gave and left what the line says.
-fn as_expected(
-    done: Both,
-    weights: &Floats,
-    window: &Floats,
-    output: &Floats,
-    marks: &[u8; 4096],
-    w: &Words,
-    parts: usize,
-    k: usize,
-) -> bool
-    requires { (parts ≤ 256) × (k ≤ 4096) }
-{
-    let one = done.first;
-    let last = done.last;
-    let other = last.outcome;
-    let state = last.state;
-    let at = 17 + 2 * parts + 2 * k;
-    let after = at + 2 * k + mark_words(k);
-    served(one)
-        & served(other)
-        & same_floats(output, w, at, 2 * k)
-        & same_marks(marks, w, at + 2 * k, k)
-        & records::left(state, weights, window, w, after, parts, parts)
-}
-
-// Output and marks start from what no call writes.
-fn replayed(w: &Words, plain: bool, start: EqualizeState, parts: usize, k1: usize, k: usize) -> bool
-    requires { (parts ≤ 256) × ((k1 ≤ k) × (k ≤ 4096)) }
-{
-    let mut weights = floats(w, 17, parts);
-    let mut window = floats(w, 17 + parts, parts);
-    let input = floats(w, 17 + 2 * parts, 2 * k);
-    let mut output = [0.0f32 / 0.0; 8192];
+    let Case { k1, k, .. } = case;
+    let mut weights = floats(case.weights);
+    let mut window = floats(case.window);
+    let input = floats(case.samples);
+    let mut output = [f32::NAN; 8192];
     let mut marks = [255u8; 4096];
-    let done = two_calls(
-        plain,
+    let first = equalize(
         start,
-        &mut weights,
-        &mut window,
-        parts,
-        &input,
-        &mut output,
-        &mut marks,
-        k1,
-        k,
+        weights.as_mut_slice(),
+        window.as_mut_slice(),
+        &input.as_slice()[..2 * k1],
+        &mut output[..2 * k1],
+        &mut marks[..k1],
     );
-    as_expected(done, &weights, &window, &output, &marks, w, parts, k)
+    let last = equalize(
+        first.state,
+        weights.as_mut_slice(),
+        window.as_mut_slice(),
+        &input.as_slice()[2 * k1..],
+        &mut output[2 * k1..2 * k],
+        &mut marks[k1..k],
+    );
+    first.outcome.is_ok()
+        & last.outcome.is_ok()
+        & same_floats(&output[..2 * k], case.symbols)
+        & same_marks(&marks[..k], case.marks)
+        & case
+            .left
+            .is(last.state, weights.as_slice(), window.as_slice())
 }
 
-pub(crate) fn agrees(w: &Words) -> bool {
-    let r = records::record_at(w, 0);
-    let Found::Record(start) = records::record_of(&r) else {
-        return false;
+// By the plain path, and by the quick and the joint path.
+pub(crate) fn agrees(w: &[u64]) -> Option<bool> {
+    let case = Case::of(w)?;
+    let Some(start) = records::record_of(case.record) else {
+        return Some(false);
     };
-    let n = w[14];
-    let k1 = w[15];
-    let k2 = w[16];
-    if n > MOST_TAPS {
-        return false;
-    }
-    if k1 > MOST_SAMPLES {
-        return false;
-    }
-    if k2 > MOST_SAMPLES - k1 {
-        return false;
-    }
-    let parts = 2 * (n as usize);
-    let first = k1 as usize;
-    let all = (k1 + k2) as usize;
-    replayed(w, true, start, parts, first, all) & replayed(w, false, start, parts, first, all)
+    let plain = replayed(case, start, equalize::reference::equalize);
+    let quick = replayed(case, start, equalize::equalize);
+    Some(plain & quick)
 }

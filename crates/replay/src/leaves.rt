@@ -1,157 +1,90 @@
-// The leaves, and what a line of each holds: the patterns of the inputs, then of the outputs.
+// The leaves, and what a line of each holds: the patterns of the inputs, then of the outputs. A leaf tells whether a
+// line agrees with it, and nothing of a line that is not in its form.
 ghost use Rattle.std.specs.Prelude.{◌≤◌, length};
 
-use crate::patterns::{double, same, single};
-use crate::records::{Numbered, constellation_of};
-use crate::words::{Words, floats};
-use crate::{calls, others};
+use crate::patterns::{double, same, single, whole};
+use crate::records::constellation_of;
+use crate::words::floats;
 use types::{C32, CosSin, EqConstellation, Qam};
 
 #[derive(Clone, Copy)]
-pub(crate) enum Leaf {
-    IsFinite,
-    FlushDenormal,
-    Clip,
-    Narrow,
-    LoopGains,
-    PhaseStep,
-    Integrate,
-    InterpPair,
-    Derotate,
-    Rotate,
-    OctantPoint,
-    DecideLevel,
-    Decide,
-    CmaR2,
-    DotComplex,
-    Calls,
-    Others,
+pub(crate) struct Leaf {
+    pub(crate) name: &'static str,
+    pub(crate) file: &'static str,
+    // How many f64 a line begins with.
+    pub(crate) doubles: usize,
+    pub(crate) agrees: fn(&[u64]) -> Option<bool>,
+    ghost callable: { IsAlwaysCallable agrees },
 }
 
-#[derive(Clone, Copy)]
-pub(crate) enum Verdict {
-    Same,
-    Differs,
-    Malformed,
+impl Leaf {
+    // How many digits the word has that stands at a place of a line.
+    pub(crate) fn digits(&self, at: usize) -> u32 {
+        if at < self.doubles { 16 } else { 8 }
+    }
 }
 
-// The most taps of a line of dot_complex: 1 + 4 * 126 + 2 words.
+// The most taps of a line of dot_complex.
 const MOST_TAPS: u64 = 126;
 
-// How many digits the word has that stands at a place of a line: 16 for an f64, 8 for all else.
-pub(crate) fn digits_of(leaf: Leaf, at: usize) -> u32 {
-    match leaf {
-        Leaf::Narrow => if at < 1 { 16 } else { 8 },
-        Leaf::LoopGains => if at < 2 { 16 } else { 8 },
-        _ => 8,
-    }
-}
-
-// How many words a line has.
-fn words_of(leaf: Leaf, words: &Words) -> usize {
-    match leaf {
-        Leaf::IsFinite => 2,
-        Leaf::FlushDenormal => 2,
-        Leaf::Clip => 3,
-        Leaf::Narrow => 2,
-        Leaf::LoopGains => 4,
-        Leaf::PhaseStep => 2,
-        Leaf::Integrate => 3,
-        Leaf::InterpPair => 3,
-        Leaf::Derotate => 6,
-        Leaf::Rotate => 6,
-        Leaf::OctantPoint => 4,
-        Leaf::DecideLevel => 3,
-        Leaf::Decide => 5,
-        Leaf::CmaR2 => 2,
-        Leaf::DotComplex => dot_words(words[0]),
-        Leaf::Calls => calls::words_of(words),
-        Leaf::Others => others::words_of(words),
-    }
-}
-
-fn dot_words(n: u64) -> usize {
-    if n <= MOST_TAPS {
-        4 * (n as usize) + 3
-    } else {
-        0
-    }
-}
-
-// What a line of `count` words shows.
-pub(crate) fn judge(leaf: Leaf, words: &Words, count: usize) -> Verdict {
-    if count != words_of(leaf, words) {
-        return Verdict::Malformed;
-    }
-    if agrees(leaf, words) {
-        Verdict::Same
-    } else {
-        Verdict::Differs
-    }
-}
-
-fn agrees(leaf: Leaf, words: &Words) -> bool {
-    match leaf {
-        Leaf::IsFinite => is_finite(words),
-        Leaf::FlushDenormal => flush_denormal(words),
-        Leaf::Clip => clip(words),
-        Leaf::Narrow => narrow(words),
-        Leaf::LoopGains => loop_gains(words),
-        Leaf::PhaseStep => phase_step(words),
-        Leaf::Integrate => integrate(words),
-        Leaf::InterpPair => interp_pair(words),
-        Leaf::Derotate => derotate(words),
-        Leaf::Rotate => rotate(words),
-        Leaf::OctantPoint => octant_point(words),
-        Leaf::DecideLevel => decide_level(words),
-        Leaf::Decide => decide(words),
-        Leaf::CmaR2 => cma_r2(words),
-        Leaf::DotComplex => dot_complex(words),
-        Leaf::Calls => calls::agrees(words),
-        Leaf::Others => others::agrees(words),
-    }
-}
-
-fn is_finite(w: &Words) -> bool {
-    let expected = if numeric::is_finite(single(w[0])) {
-        1u64
-    } else {
-        0u64
+pub(crate) fn is_finite(w: &[u64]) -> Option<bool> {
+    let [x, y] = *w else {
+        return None;
     };
-    expected == w[1]
+    Some(u64::from(numeric::is_finite(single(x))) == y)
 }
 
-fn flush_denormal(w: &Words) -> bool {
-    same(numeric::flush_denormal(single(w[0])), w[1])
+pub(crate) fn flush_denormal(w: &[u64]) -> Option<bool> {
+    let [x, y] = *w else {
+        return None;
+    };
+    Some(same(numeric::flush_denormal(single(x)), y))
 }
 
-fn clip(w: &Words) -> bool {
-    same(numeric::clip(single(w[0]), single(w[1])), w[2])
+pub(crate) fn clip(w: &[u64]) -> Option<bool> {
+    let [x, limit, y] = *w else {
+        return None;
+    };
+    Some(same(numeric::clip(single(x), single(limit)), y))
 }
 
-fn narrow(w: &Words) -> bool {
-    same(numeric::narrow(double(w[0])), w[1])
+pub(crate) fn narrow(w: &[u64]) -> Option<bool> {
+    let [x, y] = *w else {
+        return None;
+    };
+    Some(same(numeric::narrow(double(x)), y))
 }
 
 // The damping is the tracker's own.
-fn loop_gains(w: &Words) -> bool {
-    let damping = double(w[1]);
-    let g = costas::loop_gains(double(w[0]), damping);
-    (damping == costas::PHASE_DAMPING) & same(g.kp, w[2]) & same(g.ki, w[3])
+pub(crate) fn loop_gains(w: &[u64]) -> Option<bool> {
+    let [bandwidth, damping, kp, ki] = *w else {
+        return None;
+    };
+    let damping = double(damping);
+    let g = costas::loop_gains(double(bandwidth), damping);
+    Some((damping == costas::PHASE_DAMPING) & same(g.kp, kp) & same(g.ki, ki))
 }
 
-fn phase_step(w: &Words) -> bool {
-    costas_step::phase_step_f32(single(w[0])) as u64 == w[1]
+pub(crate) fn phase_step(w: &[u64]) -> Option<bool> {
+    let [x, y] = *w else {
+        return None;
+    };
+    Some(u64::from(costas_step::phase_step_f32(single(x))) == y)
 }
 
-fn integrate(w: &Words) -> bool {
-    same(costas::integrate(single(w[0]), single(w[1])), w[2])
+pub(crate) fn integrate(w: &[u64]) -> Option<bool> {
+    let [x, step, y] = *w else {
+        return None;
+    };
+    Some(same(costas::integrate(single(x), single(step)), y))
 }
 
-fn interp_pair(w: &Words) -> bool {
-    let p = (w[0] % 0x1_0000_0000) as u32;
-    let t = mix::interp_f32_pair(p);
-    same(t.c, w[1]) & same(t.s, w[2])
+pub(crate) fn interp_pair(w: &[u64]) -> Option<bool> {
+    let [phase, c, s] = *w else {
+        return None;
+    };
+    let t = mix::interp_f32_pair(whole(phase));
+    Some(same(t.c, c) & same(t.s, s))
 }
 
 // The complex number of two patterns.
@@ -173,61 +106,71 @@ fn turn(c: u64, s: u64) -> CosSin {
     }
 }
 
-fn derotate(w: &Words) -> bool {
-    let y = costas::derotate(complex(w[0], w[1]), turn(w[2], w[3]));
-    same_complex(y, w[4], w[5])
-}
-
-fn rotate(w: &Words) -> bool {
-    let y = costas::rotate(complex(w[0], w[1]), turn(w[2], w[3]));
-    same_complex(y, w[4], w[5])
-}
-
-fn octant_point(w: &Words) -> bool {
-    same_complex(costas::octant_point(complex(w[0], w[1])), w[2], w[3])
-}
-
-fn decide_level(w: &Words) -> bool {
-    let Numbered::Known(k) = constellation_of(w[0]) else {
-        return false;
+pub(crate) fn derotate(w: &[u64]) -> Option<bool> {
+    let [re, im, c, s, y, z] = *w else {
+        return None;
     };
-    let v = single(w[1]);
-    match k {
-        EqConstellation::Qam16 => constellation_qam::decide_level(Qam::Qam16, v) as u64 == w[2],
-        EqConstellation::Qam64 => constellation_qam::decide_level(Qam::Qam64, v) as u64 == w[2],
-        EqConstellation::Bpsk | EqConstellation::Qpsk | EqConstellation::Psk8 => false,
-    }
+    Some(same_complex(costas::derotate(complex(re, im), turn(c, s)), y, z))
 }
 
-fn decide(w: &Words) -> bool {
-    let Numbered::Known(k) = constellation_of(w[0]) else {
-        return false;
+pub(crate) fn rotate(w: &[u64]) -> Option<bool> {
+    let [re, im, c, s, y, z] = *w else {
+        return None;
     };
-    same_complex(constellation::decide(k, complex(w[1], w[2])), w[3], w[4])
+    Some(same_complex(costas::rotate(complex(re, im), turn(c, s)), y, z))
 }
 
-fn cma_r2(w: &Words) -> bool {
-    let Numbered::Known(k) = constellation_of(w[0]) else {
-        return false;
+pub(crate) fn octant_point(w: &[u64]) -> Option<bool> {
+    let [re, im, y, z] = *w else {
+        return None;
     };
-    same(constellation::cma_r2(k), w[1])
+    Some(same_complex(costas::octant_point(complex(re, im)), y, z))
+}
+
+pub(crate) fn decide_level(w: &[u64]) -> Option<bool> {
+    let [k, x, level] = *w else {
+        return None;
+    };
+    let qam = match constellation_of(k) {
+        Some(EqConstellation::Qam16) => Qam::Qam16,
+        Some(EqConstellation::Qam64) => Qam::Qam64,
+        _ => return Some(false),
+    };
+    Some(u64::from(constellation_qam::decide_level(qam, single(x))) == level)
+}
+
+pub(crate) fn decide(w: &[u64]) -> Option<bool> {
+    let [k, re, im, y, z] = *w else {
+        return None;
+    };
+    let Some(k) = constellation_of(k) else {
+        return Some(false);
+    };
+    Some(same_complex(constellation::decide(k, complex(re, im)), y, z))
+}
+
+pub(crate) fn cma_r2(w: &[u64]) -> Option<bool> {
+    let [k, y] = *w else {
+        return None;
+    };
+    let Some(k) = constellation_of(k) else {
+        return Some(false);
+    };
+    Some(same(constellation::cma_r2(k), y))
 }
 
 // The count of taps, the parts of the window, those of the weights, then the sum.
-fn dot_complex(w: &Words) -> bool {
-    let n = w[0];
+pub(crate) fn dot_complex(mut w: &[u64]) -> Option<bool> {
+    let n = *w.split_off_first()?;
     if n > MOST_TAPS {
-        return false;
+        return None;
     }
     let parts = 2 * (n as usize);
-    let window = floats(w, 1, parts);
-    let weights = floats(w, 1 + parts, parts);
-    let y = dot_of(&window, &weights, parts);
-    same_complex(y, w[2 * parts + 1], w[2 * parts + 2])
-}
-
-fn dot_of(x: &[f32], w: &[f32], count: usize) -> C32
-    requires { (count ≤ length x.now) × (count ≤ length w.now) }
-{
-    dot::dot_complex_c32(&x[..count], &w[..count])
+    let window = floats(w.split_off(..parts)?);
+    let weights = floats(w.split_off(..parts)?);
+    let [re, im] = *w else {
+        return None;
+    };
+    let y = dot::dot_complex_c32(window.as_slice(), weights.as_slice());
+    Some(same_complex(y, re, im))
 }

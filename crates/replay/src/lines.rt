@@ -1,235 +1,180 @@
 // Reading a file of vectors, of any length, in fixed memory: words of hexadecimal digits with single blanks
 // between them, and the end of a line after the last.
-use crate::leaves;
-use crate::leaves::{Leaf, Verdict};
+use crate::leaves::Leaf;
 use crate::words::Words;
+use std::fmt;
 use std::fs::File;
 use std::io::Read;
 
 // What was found so far.
-#[derive(Clone, Copy)]
+#[derive(Clone, Copy, Default)]
 pub(crate) struct Tally {
-    pub(crate) compared: u64,
-    pub(crate) differ: u64,
+    compared: u64,
+    differ: u64,
     // Lines that are not in their leaf's form, and files that are empty or cannot be read.
-    pub(crate) malformed: u64,
+    malformed: u64,
 }
 
 impl Tally {
-    pub const NONE: Tally = Tally {
-        compared: 0,
-        differ: 0,
-        malformed: 0,
-    };
+    pub(crate) fn add(&mut self, found: Tally) {
+        self.compared = self.compared.saturating_add(found.compared);
+        self.differ = self.differ.saturating_add(found.differ);
+        self.malformed = self.malformed.saturating_add(found.malformed);
+    }
+
+    pub(crate) fn add_malformed(&mut self) {
+        self.malformed = self.malformed.saturating_add(1);
+    }
+
+    // A line that agrees with the Rust, or differs, or is not in its form.
+    fn add_line(&mut self, agrees: Option<bool>) {
+        let Some(agrees) = agrees else {
+            return self.add_malformed();
+        };
+        self.compared = self.compared.saturating_add(1);
+        if !agrees {
+            self.differ = self.differ.saturating_add(1);
+        }
+    }
 }
 
-// The place in a line: the word that is being read, how many digits it has, how many words stand before it,
-// and whether the line can no longer be in its form.
-#[derive(Clone, Copy)]
-struct Place {
-    word: u64,
+impl fmt::Display for Tally {
+    fn fmt<W: fmt::Write>(&self, f: &mut fmt::Formatter<W>) -> fmt::Result {
+        let (compared, differ, malformed) = (self.compared, self.differ, self.malformed);
+        write!(f, "{compared} compared, {differ} differ")?;
+        if malformed > 0 {
+            write!(f, ", {malformed} malformed")?;
+        }
+        Ok(())
+    }
+}
+
+// The value of a hexadecimal digit in lower case.
+fn digit(b: u8) -> Option<u64> {
+    match b {
+        b'0'..=b'9' => Some(u64::from(b - b'0')),
+        b'a'..=b'f' => Some(u64::from(b - b'a') + 10),
+        _ => None,
+    }
+}
+
+// A word that is being read.
+#[derive(Clone, Copy, Default, PartialEq, Eq)]
+struct Word {
+    value: u64,
     digits: u32,
-    count: usize,
-    broken: bool,
 }
 
-impl Place {
-    const START: Place = Place {
-        word: 0,
-        digits: 0,
-        count: 0,
-        broken: false,
-    };
+impl Word {
+    fn with(self, b: u8) -> Option<Word> {
+        let d = digit(b)?;
+        if self.digits >= 16 {
+            return None;
+        }
+        Some(Word {
+            value: (self.value << 4) | d,
+            digits: self.digits + 1,
+        })
+    }
 }
 
-#[derive(Clone, Copy)]
-struct Progress {
-    place: Place,
+// A line as far as it is read: its whole words, and the word that is being read, or none where the line can no
+// longer be in its form.
+#[derive(Drop)]
+struct Line {
+    words: Words,
+    word: Option<Word>,
+}
+
+impl Line {
+    fn new() -> Line {
+        Line {
+            words: Words::new(),
+            word: Some(Word::default()),
+        }
+    }
+
+    fn is_empty(&self) -> bool {
+        self.words.is_empty() && self.word == Some(Word::default())
+    }
+
+    fn clear(&mut self) {
+        self.words.clear();
+        self.word = Some(Word::default());
+    }
+
+    // Keeps a word that has ended, and begins the next.
+    fn after(&mut self, word: Word, leaf: &Leaf) -> Option<Word> {
+        if word.digits != leaf.digits(self.words.len()) {
+            return None;
+        }
+        self.words.try_push(word.value).ok()?;
+        Some(Word::default())
+    }
+
+    fn take(&mut self, b: u8, leaf: &Leaf) {
+        let Some(word) = self.word else {
+            return;
+        };
+        self.word = match b {
+            b' ' | b'\n' => self.after(word, leaf),
+            _ => word.with(b),
+        };
+    }
+
+    // Whether a line that has ended agrees with the Rust.
+    fn agrees(&self, leaf: &Leaf) -> Option<bool> {
+        self.word?;
+        (leaf.agrees)(self.words.as_slice())
+    }
+}
+
+#[derive(Drop)]
+struct Reader {
+    line: Line,
     tally: Tally,
 }
 
-// A turn of the reading loop.
-#[derive(Clone, Copy)]
-enum Turn {
-    More(Progress),
-    End,
-    Failed,
-}
-
-// One more, held at the largest number.
-fn one_more(n: u64) -> u64 {
-    plus(n, 1)
-}
-
-fn plus(a: u64, b: u64) -> u64 {
-    if b <= 0xffff_ffff_ffff_ffff - a {
-        a + b
-    } else {
-        0xffff_ffff_ffff_ffff
-    }
-}
-
-pub(crate) fn sum(a: Tally, b: Tally) -> Tally {
-    Tally {
-        compared: plus(a.compared, b.compared),
-        differ: plus(a.differ, b.differ),
-        malformed: plus(a.malformed, b.malformed),
-    }
-}
-
-pub(crate) fn with_malformed(t: Tally) -> Tally {
-    Tally {
-        malformed: one_more(t.malformed),
-        ..t
-    }
-}
-
-fn with_verdict(t: Tally, v: Verdict) -> Tally {
-    match v {
-        Verdict::Same => Tally {
-            compared: one_more(t.compared),
-            ..t
-        },
-        Verdict::Differs => Tally {
-            compared: one_more(t.compared),
-            differ: one_more(t.differ),
-            malformed: t.malformed,
-        },
-        Verdict::Malformed => with_malformed(t),
-    }
-}
-
-// The value of a hexadecimal digit in lower case; 16 for any other byte.
-fn digit(b: u8) -> u64 {
-    if b'0' <= b && b <= b'9' {
-        (b - b'0') as u64
-    } else if b'a' <= b && b <= b'f' {
-        (b - b'a') as u64 + 10
-    } else {
-        16
-    }
-}
-
-fn take_digit(p: Place, b: u8) -> Place {
-    let d = digit(b);
-    let n = p.digits;
-    if d < 16 {
-        if n < 16 {
-            return Place {
-                word: (p.word << 4) | d,
-                digits: n + 1,
-                count: p.count,
-                broken: p.broken,
-            };
+impl Reader {
+    fn take(&mut self, b: u8, leaf: &Leaf) {
+        self.line.take(b, leaf);
+        if b == b'\n' {
+            self.tally.add_line(self.line.agrees(leaf));
+            self.line.clear();
         }
     }
-    Place { broken: true, ..p }
-}
 
-fn end_word(p: Place, leaf: Leaf, words: &mut Words) -> Place {
-    let at = p.count;
-    if at < 18000 && p.digits == leaves::digits_of(leaf, at) {
-        words[at] = p.word;
-        Place {
-            word: 0,
-            digits: 0,
-            count: at + 1,
-            broken: p.broken,
-        }
-    } else {
-        Place { broken: true, ..p }
+    // A file that ends within a line, or has no line, is malformed.
+    fn is_whole(&self) -> bool {
+        let empty = self.tally.compared == 0 && self.tally.malformed == 0;
+        self.line.is_empty() && !empty
     }
 }
 
-fn end_line(p: Place, leaf: Leaf, words: &Words) -> Verdict {
-    if p.broken {
-        Verdict::Malformed
-    } else {
-        leaves::judge(leaf, words, p.count)
-    }
-}
-
-fn take_byte(p: Progress, b: u8, leaf: Leaf, words: &mut Words) -> Progress {
-    let place = p.place;
-    let tally = p.tally;
-    if b == b'\n' {
-        let last = end_word(place, leaf, words);
-        let v = end_line(last, leaf, words);
-        return Progress {
-            place: Place::START,
-            tally: with_verdict(tally, v),
-        };
-    }
-    if b == b' ' {
-        return Progress {
-            place: end_word(place, leaf, words),
-            tally,
-        };
-    }
-    Progress {
-        place: take_digit(place, b),
-        tally,
-    }
-}
-
-fn take_all(start: Progress, text: &[u8], leaf: Leaf, words: &mut Words) -> Progress {
-    let mut p = start;
-    let mut i = 0;
-    while i < text.len() {
-        p = take_byte(p, text[i], leaf, words);
-        i += 1;
-    }
-    p
-}
-
-// Reads once, and takes what came.
-fn read_some(p: Progress, file: &File, leaf: Leaf, words: &mut Words) -> Turn {
+// A proved loop has to end, and nothing says that a file does: no file uses up the turns.
+pub(crate) fn read_all(file: &File, leaf: &Leaf) -> Tally {
     let mut from = file;
-    let mut buf = io::buffer();
-    match from.read(&mut buf) {
-        Err(_) => Turn::Failed,
-        Ok(n) => {
-            if n == 0 {
-                return Turn::End;
-            }
-            Turn::More(take_all(p, &buf[..n], leaf, words))
-        }
-    }
-}
-
-// Whether nothing of a line has been read yet.
-fn is_start(p: Place) -> bool {
-    p.digits == 0 && p.count == 0 && !p.broken
-}
-
-// A file that ends within a line, or has no line, is malformed.
-fn at_end(p: Progress) -> Tally {
-    let place = p.place;
-    let tally = p.tally;
-    let empty = tally.compared == 0 && tally.malformed == 0;
-    if is_start(place) && !empty {
-        tally
-    } else {
-        with_malformed(tally)
-    }
-}
-
-// A proved loop has to end, and nothing says that a file does: the turns are counted down from a number that
-// no file uses up.
-pub(crate) fn read_all(file: &File, leaf: Leaf) -> Tally {
-    let mut words = [0u64; 18000];
-    let mut p = Progress {
-        place: Place::START,
-        tally: Tally::NONE,
+    let mut reader = Reader {
+        line: Line::new(),
+        tally: Tally::default(),
     };
-    let mut turns = 0xffff_ffff_ffff_ffffu64;
-    while turns > 0 {
-        match read_some(p, file, leaf, &mut words) {
-            Turn::More(q) => p = q,
-            Turn::End => return at_end(p),
-            Turn::Failed => return with_malformed(p.tally),
+    let mut buf = [0u8; 4096];
+    for _ in 0..u64::MAX {
+        match from.read(&mut buf) {
+            Ok(0) => {
+                if reader.is_whole() {
+                    return reader.tally;
+                }
+                break;
+            }
+            Ok(n) => {
+                for b in &buf[..n] {
+                    reader.take(*b, leaf);
+                }
+            }
+            Err(_) => break,
         }
-        turns -= 1;
     }
-    with_malformed(p.tally)
+    reader.tally.add_malformed();
+    reader.tally
 }

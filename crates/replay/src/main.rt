@@ -9,7 +9,6 @@ mod lines;
 mod others;
 mod patterns;
 mod records;
-mod report;
 mod words;
 
 use crate::leaves::Leaf;
@@ -18,73 +17,126 @@ use std::fs::File;
 use std::io::Result;
 
 // Replays one file, and adds what was found to a tally.
-fn replay(rt: &HostRuntime, total: Tally, leaf: Leaf, name: &str, path: &str) -> Result<Tally> {
-    let Ok(file) = File::open(rt, path) else {
-        report::unread(rt, name)?;
-        return Ok(lines::with_malformed(total));
+fn replay(rt: &HostRuntime, total: &mut Tally, leaf: &Leaf) -> Result<()> {
+    let name = leaf.name;
+    let Ok(file) = File::open(rt, leaf.file) else {
+        total.add_malformed();
+        return println!(rt; "{name}: cannot read");
     };
     let found = lines::read_all(&file, leaf);
-    report::found(rt, name, found)?;
-    Ok(lines::sum(total, found))
-}
-
-fn numbers(rt: &HostRuntime, start: Tally) -> Result<Tally> {
-    let a = replay(rt, start, Leaf::IsFinite, "is_finite", "is_finite.txt")?;
-    let b = replay(
-        rt,
-        a,
-        Leaf::FlushDenormal,
-        "flush_denormal",
-        "flush_denormal.txt",
-    )?;
-    let c = replay(rt, b, Leaf::Clip, "clip", "clip.txt")?;
-    replay(rt, c, Leaf::Narrow, "narrow", "narrow.txt")
-}
-
-fn carrier_loop(rt: &HostRuntime, start: Tally) -> Result<Tally> {
-    let a = replay(rt, start, Leaf::LoopGains, "loop_gains", "loop_gains.txt")?;
-    let b = replay(
-        rt,
-        a,
-        Leaf::PhaseStep,
-        "phase_step_f32",
-        "phase_step_f32.txt",
-    )?;
-    let c = replay(rt, b, Leaf::Integrate, "integrate", "integrate.txt")?;
-    replay(
-        rt,
-        c,
-        Leaf::InterpPair,
-        "interp_f32_pair",
-        "interp_f32_pair.txt",
-    )
-}
-
-fn rotations(rt: &HostRuntime, start: Tally) -> Result<Tally> {
-    let a = replay(rt, start, Leaf::Derotate, "derotate", "derotate.txt")?;
-    replay(rt, a, Leaf::Rotate, "rotate", "rotate.txt")
-}
-
-fn decisions(rt: &HostRuntime, start: Tally) -> Result<Tally> {
-    let a = replay(
-        rt,
-        start,
-        Leaf::OctantPoint,
-        "octant_point",
-        "octant_point.txt",
-    )?;
-    let b = replay(rt, a, Leaf::DecideLevel, "decide_level", "decide_level.txt")?;
-    let c = replay(rt, b, Leaf::Decide, "decide", "decide.txt")?;
-    replay(rt, c, Leaf::CmaR2, "cma_r2", "cma_r2.txt")
+    total.add(found);
+    println!(rt; "{name}: {found}")
 }
 
 fn main(rt: HostRuntime) -> Result<()> {
-    let a = numbers(&rt, Tally::NONE)?;
-    let b = carrier_loop(&rt, a)?;
-    let c = rotations(&rt, b)?;
-    let d = decisions(&rt, c)?;
-    let e = replay(&rt, d, Leaf::DotComplex, "dot_complex", "dot_complex.txt")?;
-    let f = replay(&rt, e, Leaf::Calls, "calls", "calls.txt")?;
-    let g = replay(&rt, f, Leaf::Others, "others", "others.txt")?;
-    report::found(&rt, "total", g)
+    let leaves = [
+        Leaf {
+            name: "is_finite",
+            file: "is_finite.txt",
+            doubles: 0,
+            agrees: leaves::is_finite,
+        },
+        Leaf {
+            name: "flush_denormal",
+            file: "flush_denormal.txt",
+            doubles: 0,
+            agrees: leaves::flush_denormal,
+        },
+        Leaf {
+            name: "clip",
+            file: "clip.txt",
+            doubles: 0,
+            agrees: leaves::clip,
+        },
+        Leaf {
+            name: "narrow",
+            file: "narrow.txt",
+            doubles: 1,
+            agrees: leaves::narrow,
+        },
+        Leaf {
+            name: "loop_gains",
+            file: "loop_gains.txt",
+            doubles: 2,
+            agrees: leaves::loop_gains,
+        },
+        Leaf {
+            name: "phase_step_f32",
+            file: "phase_step_f32.txt",
+            doubles: 0,
+            agrees: leaves::phase_step,
+        },
+        Leaf {
+            name: "integrate",
+            file: "integrate.txt",
+            doubles: 0,
+            agrees: leaves::integrate,
+        },
+        Leaf {
+            name: "interp_f32_pair",
+            file: "interp_f32_pair.txt",
+            doubles: 0,
+            agrees: leaves::interp_pair,
+        },
+        Leaf {
+            name: "derotate",
+            file: "derotate.txt",
+            doubles: 0,
+            agrees: leaves::derotate,
+        },
+        Leaf {
+            name: "rotate",
+            file: "rotate.txt",
+            doubles: 0,
+            agrees: leaves::rotate,
+        },
+        Leaf {
+            name: "octant_point",
+            file: "octant_point.txt",
+            doubles: 0,
+            agrees: leaves::octant_point,
+        },
+        Leaf {
+            name: "decide_level",
+            file: "decide_level.txt",
+            doubles: 0,
+            agrees: leaves::decide_level,
+        },
+        Leaf {
+            name: "decide",
+            file: "decide.txt",
+            doubles: 0,
+            agrees: leaves::decide,
+        },
+        Leaf {
+            name: "cma_r2",
+            file: "cma_r2.txt",
+            doubles: 0,
+            agrees: leaves::cma_r2,
+        },
+        Leaf {
+            name: "dot_complex",
+            file: "dot_complex.txt",
+            doubles: 0,
+            agrees: leaves::dot_complex,
+        },
+        Leaf {
+            name: "calls",
+            file: "calls.txt",
+            doubles: 0,
+            agrees: calls::agrees,
+        },
+        Leaf {
+            name: "others",
+            file: "others.txt",
+            doubles: 0,
+            agrees: others::agrees,
+        },
+    ];
+    let mut total = Tally::default();
+    let all = &leaves[..];
+    for leaf in all {
+        replay(&rt, &mut total, leaf)?;
+    }
+    println!(rt; "total: {total}")
 }

@@ -6,150 +6,132 @@ ghost use Rattle.std.specs.Prelude.{◌≤◌, length};
 
 use crate::patterns::single;
 use crate::records;
-use crate::records::Found;
-use crate::words::{Floats, Words, floats};
-use types::{EqualizeState, Equalized, Error, Fresh, Outcome};
+use crate::records::{Left, Record};
+use crate::words::floats;
+use types::{EqualizeState, Equalized, Error};
 
 const MOST_TAPS: u64 = 128;
 
-// How many words a line has; 0 where the sizes or the operation are out of range.
-pub(crate) fn words_of(w: &Words) -> usize {
-    let n = w[16];
-    let m = w[17];
-    if n > MOST_TAPS {
-        return 0;
-    }
-    if m > MOST_TAPS {
-        return 0;
-    }
-    if w[14] > 4 {
-        return 0;
-    }
-    35 + 4 * (n as usize) + 4 * (m as usize)
-}
-
-// A record that is not made is the one that was handed.
-fn new(given: EqualizeState, weights: &mut [f32], window: &mut [f32]) -> Equalized {
-    let params = given.params;
-    match equalize_state::new(weights, window, params) {
-        Fresh::Made(state) => Equalized {
-            state,
-            outcome: Outcome::Served,
-        },
-        Fresh::NotMade(e) => Equalized {
-            state: given,
-            outcome: Outcome::Refused(e),
-        },
-    }
-}
-
-fn operate(
-    operation: u64,
-    s: EqualizeState,
-    x: f32,
-    weights: &mut [f32],
-    window: &mut [f32],
-) -> Equalized {
-    match operation {
-        0 => new(s, weights, window),
-        1 => equalize_state::reset(s, weights, window),
-        2 => equalize_state::set_mu_cma(s, x),
-        3 => equalize_state::set_mu_dd(s, x),
-        _ => Equalized {
-            state: equalize_state::set_frequency(s, x),
-            outcome: Outcome::Served,
-        },
-    }
-}
-
-fn operate_on(
-    operation: u64,
-    s: EqualizeState,
-    x: f32,
-    weights: &mut [f32],
-    a: usize,
-    window: &mut [f32],
-    b: usize,
-) -> Equalized
-    requires { (a ≤ length weights.old) × (b ≤ length window.old) }
-{
-    operate(operation, s, x, &mut weights[..a], &mut window[..b])
-}
-
 #[derive(Clone, Copy)]
-struct Lengths {
-    expected: usize,
-    got: usize,
+enum Operation {
+    New,
+    Reset,
+    SetMuCma,
+    SetMuDd,
+    SetFrequency,
 }
 
-fn lengths_of(e: Error) -> Lengths {
-    match e {
-        Error::Window { expected, got } => Lengths { expected, got },
-        Error::Output { expected, got } => Lengths { expected, got },
-        Error::Marks { expected, got } => Lengths { expected, got },
-        Error::Odd
-        | Error::Feedback
-        | Error::Taps
-        | Error::MuCma
-        | Error::MuDd
-        | Error::Bandwidth
-        | Error::Record => Lengths {
-            expected: 0,
-            got: 0,
-        },
+impl Operation {
+    fn of(n: u64) -> Option<Operation> {
+        Some(match n {
+            0 => Operation::New,
+            1 => Operation::Reset,
+            2 => Operation::SetMuCma,
+            3 => Operation::SetMuDd,
+            4 => Operation::SetFrequency,
+            _ => return None,
+        })
     }
-}
 
-fn same_refusal(o: Outcome, number: u64, expected: u64, got: u64) -> bool {
-    match o {
-        Outcome::Served => number == 0 && expected == 0 && got == 0,
-        Outcome::Refused(e) => {
-            let l = lengths_of(e);
-            (types_numbers::error_number(e) as u64 == number)
-                & (l.expected as u64 == expected)
-                & (l.got as u64 == got)
+    // x is the step size or the frequency.
+    fn on(self, s: EqualizeState, x: f32, weights: &mut [f32], window: &mut [f32]) -> Equalized {
+        match self {
+            Operation::New => new(s, weights, window),
+            Operation::Reset => equalize_state::reset(s, weights, window),
+            Operation::SetMuCma => equalize_state::set_mu_cma(s, x),
+            Operation::SetMuDd => equalize_state::set_mu_dd(s, x),
+            Operation::SetFrequency => Equalized::served(equalize_state::set_frequency(s, x)),
         }
     }
 }
 
-fn as_expected(
-    done: Equalized,
-    weights: &Floats,
-    window: &Floats,
-    w: &Words,
-    a: usize,
-    b: usize,
-) -> bool
-    requires { (a ≤ 256) × (b ≤ 256) }
-{
-    let outcome = done.outcome;
-    let state = done.state;
-    let at = 18 + a + b;
-    same_refusal(outcome, w[at], w[at + 1], w[at + 2])
-        & records::left(state, weights, window, w, at + 3, a, b)
+// A record that is not made is the one that was handed.
+fn new(given: EqualizeState, weights: &mut [f32], window: &mut [f32]) -> Equalized {
+    match equalize_state::new(weights, window, given.params) {
+        Ok(state) => Equalized::served(state),
+        Err(e) => Equalized::refused(given, e),
+    }
 }
 
-fn replayed(w: &Words, s: EqualizeState, a: usize, b: usize) -> bool
-    requires { (a ≤ 256) × (b ≤ 256) }
-{
-    let mut weights = floats(w, 18, a);
-    let mut window = floats(w, 18 + a, b);
-    let done = operate_on(w[14], s, single(w[15]), &mut weights, a, &mut window, b);
-    as_expected(done, &weights, &window, w, a, b)
+// The words of a line.
+#[derive(Clone, Copy)]
+struct Case<'a> {
+    record: &'a Record,
+    operation: Operation,
+    x: u64,
+    weights: &'a [u64],
+    window: &'a [u64],
+    refusal: [u64; 3],
+    left: Left<'a>,
+    ghost weights_len: { length weights.now ≤ 256 },
+    ghost window_len: { length window.now ≤ 256 },
 }
 
-pub(crate) fn agrees(w: &Words) -> bool {
-    let r = records::record_at(w, 0);
-    let Found::Record(s) = records::record_of(&r) else {
-        return false;
+impl Case<'_> {
+    fn of(w: &[u64]) -> Option<Case<'_>> {
+        let (record, w) = w.split_first_chunk()?;
+        let (head, mut w) = w.split_first_chunk()?;
+        let [operation, x, n, m]: [u64; 4] = *head;
+        if n > MOST_TAPS || m > MOST_TAPS {
+            return None;
+        }
+        let operation = Operation::of(operation)?;
+        let a = 2 * (n as usize);
+        let b = 2 * (m as usize);
+        let weights = w.split_off(..a)?;
+        let window = w.split_off(..b)?;
+        let (refusal, w) = w.split_first_chunk()?;
+        let (last, mut w) = w.split_first_chunk()?;
+        let left = Left {
+            record: last,
+            weights: w.split_off(..a)?,
+            window: w.split_off(..b)?,
+        };
+        if !w.is_empty() {
+            return None;
+        }
+        Some(Case {
+            record,
+            operation,
+            x,
+            weights,
+            window,
+            refusal: *refusal,
+            left,
+        })
+    }
+}
+
+// The number of a refusal and its two lengths.
+fn numbers_of(outcome: Result<(), Error>) -> [u64; 3] {
+    let Err(e) = outcome else {
+        return [0, 0, 0];
     };
-    let n = w[16];
-    let m = w[17];
-    if n > MOST_TAPS {
-        return false;
+    let number = u64::from(u32::from(e));
+    match e.lengths() {
+        Some(l) => [number, l.expected as u64, l.got as u64],
+        None => [number, 0, 0],
     }
-    if m > MOST_TAPS {
-        return false;
-    }
-    replayed(w, s, 2 * (n as usize), 2 * (m as usize))
+}
+
+pub(crate) fn agrees(w: &[u64]) -> Option<bool> {
+    let case = Case::of(w)?;
+    let Some(s) = records::record_of(case.record) else {
+        return Some(false);
+    };
+    let mut weights = floats(case.weights);
+    let mut window = floats(case.window);
+    let done = case.operation.on(
+        s,
+        single(case.x),
+        weights.as_mut_slice(),
+        window.as_mut_slice(),
+    );
+    let refused = numbers_of(done.outcome) == case.refusal;
+    Some(
+        refused
+            & case
+                .left
+                .is(done.state, weights.as_slice(), window.as_slice()),
+    )
 }

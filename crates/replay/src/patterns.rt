@@ -1,39 +1,26 @@
-// Floats and their patterns.
+// Floats and their patterns. Every NaN is taken alike.
+use std::num::{
+    f32_from_bits_with_nan, f32_to_bits_with_nan, f64_from_bits_with_nan, f64_to_bits_with_nan,
+};
 
-// The f32 of a pattern; every NaN is taken alike.
+// The f32 of a pattern.
 pub(crate) fn single(w: u64) -> f32 {
-    let b = (w % 0x1_0000_0000) as u32;
-    if b % 0x8000_0000 > 0x7f80_0000 {
-        return 0.0 / 0.0;
-    }
-    f32::from_bits(b)
+    f32_from_bits_with_nan(whole(w))
 }
 
 // The f64 of a pattern.
 pub(crate) fn double(w: u64) -> f64 {
-    if w % 0x8000_0000_0000_0000 > 0x7ff0_0000_0000_0000 {
-        return 0.0 / 0.0;
-    }
-    f64::from_bits(w)
+    f64_from_bits_with_nan(w)
 }
 
 // Whether x has the pattern w, or both are NaNs.
 pub(crate) fn same(x: f32, w: u64) -> bool {
-    if w > 0xffff_ffff {
-        return false;
-    }
-    if x != x {
-        return w % 0x8000_0000 > 0x7f80_0000;
-    }
-    f32::to_bits(x) == w as u32
+    w <= 0xffff_ffff && f32_to_bits_with_nan(x) == f32_to_bits_with_nan(single(w))
 }
 
 // Whether x has the pattern w, or both are NaNs.
 pub(crate) fn same_double(x: f64, w: u64) -> bool {
-    if x != x {
-        return w % 0x8000_0000_0000_0000 > 0x7ff0_0000_0000_0000;
-    }
-    f64::to_bits(x) == w
+    f64_to_bits_with_nan(x) == f64_to_bits_with_nan(double(w))
 }
 
 // The u32 of a word.

@@ -1,113 +1,101 @@
 // The record of an equalizer, in 14 words: constellation, feedback taps, mu_cma, mu_dd, cma_symbols, the
 // bandwidth's upper and lower half, kp, ki, mode, count, mse, phase, freq.
-ghost use Rattle.std.specs.Prelude.{◌+◌, ◌≤◌};
-
 use crate::patterns::{double, same, same_double, single, whole};
-use crate::words::{Floats, Words, same_floats};
-use types::{EqConstellation, EqParams, EqualizeState};
+use crate::words::same_floats;
+use types::{EqConstellation, EqMode, EqParams, EqualizeState};
 
-#[derive(Clone, Copy)]
-pub(crate) enum Found {
-    Record(EqualizeState),
-    Nothing,
+pub(crate) type Record = [u64; 14];
+
+pub(crate) fn constellation_of(w: u64) -> Option<EqConstellation> {
+    EqConstellation::try_from(u32::try_from(w).ok()?).ok()
 }
 
-// A constellation goes by its number.
-#[derive(Clone, Copy)]
-pub(crate) enum Numbered {
-    Known(EqConstellation),
-    Unknown,
+fn mode_of(w: u64) -> Option<EqMode> {
+    EqMode::try_from(u32::try_from(w).ok()?).ok()
 }
 
-pub(crate) fn constellation_of(w: u64) -> Numbered {
-    let n = whole(w);
-    if n as u64 == w && types_numbers::known_constellation(n) {
-        return Numbered::Known(types_numbers::constellation_of(n));
-    }
-    Numbered::Unknown
-}
-
-// The 14 words from a place on.
-pub(crate) fn record_at(w: &Words, from: usize) -> [u64; 14]
-    requires { from + 14 ≤ 18000 }
-{
-    let mut r = [0u64; 14];
-    let mut i = 0;
-    while i < 14 {
-        r[i] = w[from + i];
-        i += 1;
-    }
-    r
-}
-
-fn params_of(r: &[u64; 14], constellation: EqConstellation) -> EqParams {
-    EqParams {
-        constellation,
-        feedback_taps: r[1] as usize,
-        mu_cma: single(r[2]),
-        mu_dd: single(r[3]),
-        cma_symbols: whole(r[4]),
-        phase_bw: double((r[5] << 32) | r[6]),
-    }
-}
-
-pub(crate) fn record_of(r: &[u64; 14]) -> Found {
-    let Numbered::Known(k) = constellation_of(r[0]) else {
-        return Found::Nothing;
+pub(crate) fn record_of(r: &Record) -> Option<EqualizeState> {
+    let [
+        k,
+        taps,
+        mu_cma,
+        mu_dd,
+        symbols,
+        upper,
+        lower,
+        kp,
+        ki,
+        mode,
+        count,
+        mse,
+        phase,
+        freq,
+    ] = *r;
+    let params = EqParams {
+        constellation: constellation_of(k)?,
+        feedback_taps: taps as usize,
+        mu_cma: single(mu_cma),
+        mu_dd: single(mu_dd),
+        cma_symbols: whole(symbols),
+        phase_bw: double((upper << 32) | lower),
     };
-    let m = whole(r[9]);
-    if m as u64 != r[9] || !types_numbers::known_mode(m) {
-        return Found::Nothing;
-    }
-    Found::Record(EqualizeState {
-        params: params_of(r, k),
-        kp: single(r[7]),
-        ki: single(r[8]),
-        mode: types_numbers::mode_of(m),
-        count: whole(r[10]),
-        mse: single(r[11]),
-        phase: whole(r[12]),
-        freq: single(r[13]),
+    Some(EqualizeState {
+        params,
+        kp: single(kp),
+        ki: single(ki),
+        mode: mode_of(mode)?,
+        count: whole(count),
+        mse: single(mse),
+        phase: whole(phase),
+        freq: single(freq),
     })
 }
 
-fn same_params(p: EqParams, r: &[u64; 14]) -> bool {
-    let k = p.constellation;
-    (types_numbers::constellation_number(k) as u64 == r[0])
-        & (p.feedback_taps as u64 == r[1])
-        & same(p.mu_cma, r[2])
-        & same(p.mu_dd, r[3])
-        & (p.cma_symbols as u64 == r[4])
-        & same_double(p.phase_bw, (r[5] << 32) | r[6])
+fn same_record(s: EqualizeState, r: &Record) -> bool {
+    let [
+        k,
+        taps,
+        mu_cma,
+        mu_dd,
+        symbols,
+        upper,
+        lower,
+        kp,
+        ki,
+        mode,
+        count,
+        mse,
+        phase,
+        freq,
+    ] = *r;
+    let p = s.params;
+    (u64::from(u32::from(p.constellation)) == k)
+        & (p.feedback_taps as u64 == taps)
+        & same(p.mu_cma, mu_cma)
+        & same(p.mu_dd, mu_dd)
+        & (u64::from(p.cma_symbols) == symbols)
+        & same_double(p.phase_bw, (upper << 32) | lower)
+        & same(s.kp, kp)
+        & same(s.ki, ki)
+        & (u64::from(u32::from(s.mode)) == mode)
+        & (u64::from(s.count) == count)
+        & same(s.mse, mse)
+        & (u64::from(s.phase) == phase)
+        & same(s.freq, freq)
 }
 
-pub(crate) fn same_record(s: EqualizeState, r: &[u64; 14]) -> bool {
-    let params = s.params;
-    let mode = s.mode;
-    same_params(params, r)
-        & same(s.kp, r[7])
-        & same(s.ki, r[8])
-        & (types_numbers::mode_number(mode) as u64 == r[9])
-        & (s.count as u64 == r[10])
-        & same(s.mse, r[11])
-        & (s.phase as u64 == r[12])
-        & same(s.freq, r[13])
+// What an operation leaves, in words: the record, the weights, the window.
+#[derive(Clone, Copy)]
+pub(crate) struct Left<'a> {
+    pub(crate) record: &'a Record,
+    pub(crate) weights: &'a [u64],
+    pub(crate) window: &'a [u64],
 }
 
-// Whether a call left what the words say: a record, then weights and window of `a` and `b` parts.
-pub(crate) fn left(
-    s: EqualizeState,
-    weights: &Floats,
-    window: &Floats,
-    w: &Words,
-    from: usize,
-    a: usize,
-    b: usize,
-) -> bool
-    requires { (a ≤ 256) × ((b ≤ 256) × (from + 526 ≤ 18000)) }
-{
-    let r = record_at(w, from);
-    same_record(s, &r)
-        & same_floats(weights, w, from + 14, a)
-        & same_floats(window, w, from + 14 + a, b)
+impl Left<'_> {
+    pub(crate) fn is(self, s: EqualizeState, weights: &[f32], window: &[f32]) -> bool {
+        same_record(s, self.record)
+            & same_floats(weights, self.weights)
+            & same_floats(window, self.window)
+    }
 }
