@@ -1,13 +1,20 @@
 -- A call from bytes to bytes: one law for each exit. Assumes nothing.
 use Prim.Native.Nat.{ℕ}
-use mathlib.Core.Path.{◌≡◌}
+use mathlib.Core.Path.{◌≡◌, refl}
 use mathlib.Core.Bool.{true, false}
 use mathlib.Core.List.{List}
 use lib.Ieee.{Float}
+use Rattle.std.specs.Prelude.{Ok, Err}
+use Rattle.std.specs.Result.{is_ok}
+use Rattle.definition.specs.Refusals.{Outcome}
 use Rattle.definition.specs.Sample.{Equalizer}
 use Rattle.definition.specs.Calls.{Answer, equalize_def}
 use Rattle.cf32.specs.Bytes.{read_into, write_over}
 use Rattle.cf32_block.specs.Block.{served, bytes_answer, block_def}
+
+pub served_is : (o : Outcome) → served o ≡ is_ok o
+served_is (Ok tt) = refl
+served_is (Err e) = refl
 
 -- xs are the floats that were read, a is the answer over them
 module _ (q : Equalizer) (bs : List ℕ) (x y : List Float) (out ms : List ℕ) (xs : List Float) (r : xs ≡ read_into bs x) (a : Answer) (p : a ≡ equalize_def q xs y ms) where

@@ -4,18 +4,9 @@
 ghost use Rattle.std.specs.Prelude.{◌≡◌};
 ghost use Rattle.definition.specs.Calls.{equalize_def};
 ghost use Rattle.definition.specs.Packed.{equalizer, answered};
-ghost use Rattle.cf32_block.specs.Block.{served, bytes_answer, block_def};
+ghost use Rattle.cf32_block.specs.Block.{bytes_answer, block_def};
 
-use types::{EqualizeState, Equalized, Outcome};
-
-fn is_served(outcome: Outcome) -> bool
-    ensures { result ≡ served outcome }
-{
-    match outcome {
-        Outcome::Served => true,
-        Outcome::Refused(_) => false,
-    }
-}
+use types::{EqualizeState, Equalized};
 
 // By the plain path, or by the quick or the joint one.
 fn called(
@@ -55,8 +46,7 @@ pub fn block(
 {
     cf32::floats(input, x);
     let e = called(plain, state, weights, window, x, y, marks);
-    let outcome = e.outcome;
-    if is_served(outcome) {
+    if e.outcome.is_ok() {
         cf32::bytes(y, output);
     }
     e
