@@ -1,3 +1,2 @@
--- What the loop asks of its slices, and how a stream ends.
+-- How a stream ends.
 pub mod Ends
-pub mod Room

@@ -1,16 +1,17 @@
 // A stream of samples, of any length, by calls of at most 4,096. What the calls give for what was read at once is written at once.
 #![tactic(auto)]
 
-ghost use Rattle.std.specs.Prelude.{◌*◌, ◌≤◌, ◌<◌, ◌≡◌};
+ghost use Rattle.std.specs.Prelude.{◌≡◌, ◌-◌, ◌*◌, ◌≤◌, length};
 ghost use Rattle.equalizer_stream.specs.Ends.{is_whole};
-ghost use Rattle.equalizer_stream.specs.Room.{Holds};
 
 use program::files::{Sink, Source};
-use program::text;
 use program::text::Page;
 use std::io;
-use std::io::{Read, Result, Write};
-use types::{EqMode, EqualizeState, Equalized, Error, Mark, Outcome};
+use std::io::{Read, Write};
+use types::{EqMode, EqualizeState, Error, Mark};
+
+// The most samples that are read at once.
+const MOST: usize = 4096;
 
 // How a stream is served: by the plain path or the fast one, how many samples a call, as text or as bytes.
 #[derive(Clone, Copy)]
@@ -30,7 +31,7 @@ pub struct Files<'a> {
     pub curve: Sink<'a>,
 }
 
-#[derive(Clone, Copy)]
+#[derive(Clone, Copy, Default)]
 pub struct Tally {
     pub samples: u64,
     pub heard: u64,
@@ -41,13 +42,15 @@ pub struct Tally {
 }
 
 impl Tally {
-    pub const NONE: Tally = Tally {
-        samples: 0,
-        heard: 0,
-        blank: 0,
-        spilled: 0,
-        unknown: 0,
-    };
+    fn add(&mut self, mark: u8) {
+        self.samples = self.samples.saturating_add(1);
+        match Mark::try_from(mark) {
+            Ok(Mark::Heard) => self.heard = self.heard.saturating_add(1),
+            Ok(Mark::Blank) => self.blank = self.blank.saturating_add(1),
+            Ok(Mark::Spilled) => self.spilled = self.spilled.saturating_add(1),
+            Err(_) => self.unknown = self.unknown.saturating_add(1),
+        }
+    }
 }
 
 #[derive(Clone, Copy)]
@@ -56,122 +59,71 @@ pub struct Progress {
     pub tally: Tally,
 }
 
-// How a stream ended. A failed read or write has the system's error, and a write which output it was: 0 symbols, 1 marks, 2 the curve.
+// An output of a stream.
+#[derive(Clone, Copy, Debug, PartialEq, Eq)]
+pub enum Target {
+    Symbols,
+    Marks,
+    Curve,
+}
+
+// What ended a stream before all of it was served and written. A failed read or write has the system's error.
 #[derive(Clone, Copy)]
 pub enum Ending {
-    Whole,
     // The bytes that are left over.
     Truncated(usize),
     Unread(io::Error),
-    Unwritten(u32, io::Error),
+    Unwritten(Target, io::Error),
     Refused(Error),
 }
 
 #[derive(Clone, Copy)]
 pub struct Done {
     pub progress: Progress,
-    pub ending: Ending,
+    pub ending: Result<(), Ending>,
 }
 
 impl Done {
     pub fn is_whole(self) -> bool
         ensures { result ≡ is_whole self.ending }
     {
-        let e = self.ending;
-        match e {
-            Ending::Whole => true,
-            Ending::Truncated(_) => false,
-            Ending::Unread(_) => false,
-            Ending::Unwritten(_, _) => false,
-            Ending::Refused(_) => false,
-        }
+        self.ending.is_ok()
     }
 }
 
-#[derive(Clone, Copy)]
-enum Turn {
-    More(Progress),
-    End(Done),
-}
-
-// Bytes that were read, and whether the input has ended or failed.
-#[derive(Clone, Copy)]
+// Bytes that were read, and whether there may be more.
+#[derive(Drop)]
 struct Filled {
     bytes: usize,
-    more: bool,
-    failed: Option<io::Error>,
+    more: io::Result<bool>,
 }
 
-fn least(a: usize, b: usize) -> usize
-    ensures upper_bound { result ≤ a }
-    ensures upper_bound_2 { result ≤ b }
+// Reads until raw is full, the input ends or a read fails.
+fn fill(mut input: Source<'_>, raw: &mut [u8]) -> Filled
+    ensures { result.bytes ≤ length raw.old }
 {
-    if a < b { a } else { b }
-}
-
-// Reads until `want` bytes are there, the input ends or a read fails.
-fn fill(input: Source<'_>, raw: &mut [u8], want: usize) -> Filled {
-    let mut from = input;
-    let most = least(want, raw.len());
-    let mut have = 0;
-    while have < most {
-        match from.read(&mut raw[have..most]) {
-            Ok(got) => {
-                let n = least(got, most - have);
-                if n == 0 {
-                    return Filled {
-                        bytes: have,
-                        more: false,
-                        failed: None,
-                    };
-                }
-                have += n;
+    let mut bytes = 0;
+    while bytes < raw.len() {
+        match input.read(&mut raw[bytes..]) {
+            Ok(0) => {
+                return Filled {
+                    bytes,
+                    more: Ok(false),
+                };
             }
+            Ok(n) => bytes += n,
             Err(e) => {
                 return Filled {
-                    bytes: have,
-                    more: false,
-                    failed: Some(e),
+                    bytes,
+                    more: Err(e),
                 };
             }
         }
     }
     Filled {
-        bytes: have,
-        more: true,
-        failed: None,
+        bytes,
+        more: Ok(true),
     }
-}
-
-fn one_more(n: u64) -> u64 {
-    if n < 0xffff_ffff_ffff_ffff { n + 1 } else { n }
-}
-
-fn with_mark(t: Tally, mark: u8) -> Tally {
-    let mut n = t;
-    n.samples = one_more(t.samples);
-    if !types_numbers::known_mark(mark) {
-        n.unknown = one_more(t.unknown);
-        return n;
-    }
-    match types_numbers::mark_of(mark) {
-        Mark::Heard => n.heard = one_more(t.heard),
-        Mark::Blank => n.blank = one_more(t.blank),
-        Mark::Spilled => n.spilled = one_more(t.spilled),
-    }
-    n
-}
-
-// The marks from `from` to before `to`, counted.
-fn tallied(start: Tally, marks: &[u8], from: usize, to: usize) -> Tally {
-    let mut t = start;
-    let mut i = from;
-    let end = least(to, marks.len());
-    while i < end {
-        t = with_mark(t, marks[i]);
-        i += 1;
-    }
-    t
 }
 
 // A float, and a blank.
@@ -192,7 +144,7 @@ fn line(p: &mut Page<8192>, re: f32, im: f32, mark: u8) {
 const LINE: usize = 128;
 
 // Writes a page that has no room for another line, and begins it anew.
-fn turned(to: &mut Sink<'_>, p: &mut Page<8192>) -> Result<()> {
+fn turned(to: &mut Sink<'_>, p: &mut Page<8192>) -> io::Result<()> {
     if p.room() > LINE {
         return Ok(());
     }
@@ -202,10 +154,10 @@ fn turned(to: &mut Sink<'_>, p: &mut Page<8192>) -> Result<()> {
 }
 
 // The symbols as lines of text.
-fn lines(output: Sink<'_>, y: &[f32], marks: &[u8], count: usize) -> Result<()> {
+fn lines(output: Sink<'_>, y: &[f32], marks: &[u8], count: usize) -> io::Result<()> {
     let mut to = output;
     let mut p: Page<8192> = Page::new();
-    let n = least(count, least(y.len() / 2, marks.len()));
+    let n = count.min(y.len() / 2).min(marks.len());
     for i in 0..n {
         line(&mut p, y[2 * i], y[2 * i + 1], marks[i]);
         turned(&mut to, &mut p)?;
@@ -230,7 +182,7 @@ fn point(p: &mut Page<128>, t: Tally, s: EqualizeState) {
 }
 
 // Writes a point, where a curve is wanted.
-fn drawn(curve: Sink<'_>, t: Tally, s: EqualizeState) -> Result<()> {
+fn drawn(curve: Sink<'_>, t: Tally, s: EqualizeState) -> io::Result<()> {
     if !curve.is_wanted() {
         return Ok(());
     }
@@ -240,286 +192,192 @@ fn drawn(curve: Sink<'_>, t: Tally, s: EqualizeState) -> Result<()> {
     to.write_all(p.bytes())
 }
 
-fn ended_by(got: Filled) -> Ending {
-    if let Some(e) = got.failed {
-        return Ending::Unread(e);
+// The bytes and marks of at most 4,096 samples: as they were read, and what the calls gave.
+#[derive(Drop)]
+struct Room {
+    raw: [u8; 32768],
+    out: [u8; 32768],
+    marks: [u8; 4096],
+}
+
+impl Room {
+    // One call on the samples from `at` to before `to`, with room for N floats.
+    fn equalize<const N: usize>(
+        &mut self,
+        plain: bool,
+        state: EqualizeState,
+        weights: &mut [f32],
+        window: &mut [f32],
+        at: usize,
+        to: usize,
+    ) -> Result<EqualizeState, Error>
+        requires samples { (at ≤ to) × (to ≤ 4096) }
+        requires floats { (2 * (to - at) ≤ N) × (N ≤ 8192) }
+    {
+        let n = 2 * (to - at);
+        let mut x = [0.0f32; N];
+        let mut y = [0.0f32; N];
+        let Room { raw, out, marks } = self;
+        let e = cf32_block::block(
+            plain,
+            state,
+            weights,
+            window,
+            &raw[8 * at..8 * to],
+            &mut x[..n],
+            &mut y[..n],
+            &mut out[8 * at..8 * to],
+            &mut marks[at..to],
+        );
+        e.outcome?;
+        Ok(e.state)
     }
-    if got.bytes % 8 != 0 {
-        return Ending::Truncated(got.bytes % 8);
-    }
-    Ending::Whole
-}
 
-// What was served of the samples that were read, and how the calls ended.
-#[derive(Clone, Copy)]
-struct Batch {
-    progress: Progress,
-    count: usize,
-    ending: Ending,
-}
-
-// One call: with room for the floats of 64 samples, or of 4,096, which takes a while to clear.
-fn call(
-    plain: bool,
-    state: EqualizeState,
-    weights: &mut [f32],
-    window: &mut [f32],
-    raw: &[u8],
-    out: &mut [u8],
-    marks: &mut [u8],
-) -> Equalized {
-    let n = marks.len();
-    if n <= 64 {
-        return short_call(plain, state, weights, window, raw, out, marks);
-    }
-    long_call(plain, state, weights, window, raw, out, marks)
-}
-
-fn short_call(
-    plain: bool,
-    state: EqualizeState,
-    weights: &mut [f32],
-    window: &mut [f32],
-    raw: &[u8],
-    out: &mut [u8],
-    marks: &mut [u8],
-) -> Equalized {
-    let n = 2 * least(marks.len(), 64);
-    let mut x = [0.0f32; 128];
-    let mut y = [0.0f32; 128];
-    cf32_block::block(
-        plain,
-        state,
-        weights,
-        window,
-        raw,
-        &mut x[..n],
-        &mut y[..n],
-        out,
-        marks,
-    )
-}
-
-fn long_call(
-    plain: bool,
-    state: EqualizeState,
-    weights: &mut [f32],
-    window: &mut [f32],
-    raw: &[u8],
-    out: &mut [u8],
-    marks: &mut [u8],
-) -> Equalized {
-    let n = 2 * least(marks.len(), 4096);
-    let mut x = [0.0f32; 8192];
-    let mut y = [0.0f32; 8192];
-    cf32_block::block(
-        plain,
-        state,
-        weights,
-        window,
-        raw,
-        &mut x[..n],
-        &mut y[..n],
-        out,
-        marks,
-    )
-}
-
-// Where a call ends that begins at `at`, of n samples.
-fn until(at: usize, block: usize, n: usize) -> usize
-    requires { at < n }
-    ensures { (at < result) × (result ≤ n) }
-{
-    if block < 1 {
-        return n;
-    }
-    if n - at > block {
-        return at + block;
-    }
-    n
-}
-
-// What a call gave: how far it came, or how it ended the stream.
-#[derive(Clone, Copy)]
-enum Onward {
-    To(Progress),
-    End(Ending),
-}
-
-// One call on the samples from `at` to before `to`, its marks counted and its point drawn.
-fn called(
-    o: Ways,
-    curve: Sink<'_>,
-    p: Progress,
-    weights: &mut [f32],
-    window: &mut [f32],
-    raw: &[u8],
-    out: &mut [u8],
-    marks: &mut [u8],
-    at: usize,
-    to: usize,
-) -> Onward
-    requires { (at ≤ to) × (Holds to raw.now out.old marks.old) }
-{
-    let state = p.state;
-    let a = 8 * at;
-    let b = 8 * to;
-    let e = call(
-        o.plain,
-        state,
-        weights,
-        window,
-        &raw[a..b],
-        &mut out[a..b],
-        &mut marks[at..to],
-    );
-    let next = e.state;
-    let outcome = e.outcome;
-    match outcome {
-        Outcome::Refused(error) => Onward::End(Ending::Refused(error)),
-        Outcome::Served => {
-            let t = tallied(p.tally, marks, at, to);
-            match drawn(curve, t, next) {
-                Ok(()) => Onward::To(Progress {
-                    state: next,
-                    tally: t,
-                }),
-                Err(e) => Onward::End(Ending::Unwritten(2, e)),
-            }
+    // Writes the symbols of n samples.
+    fn symbols(&self, output: Sink<'_>, is_text: bool, n: usize) -> io::Result<()>
+        requires { n ≤ 4096 }
+    {
+        if is_text {
+            let mut y = [0.0f32; 8192];
+            cf32::floats(&self.out, &mut y);
+            return lines(output, &y, &self.marks, n);
         }
+        let mut to = output;
+        to.write_all(&self.out[..8 * n])
+    }
+
+    fn marks(&self, output: Sink<'_>, n: usize) -> io::Result<()>
+        requires { n ≤ 4096 }
+    {
+        let mut to = output;
+        to.write_all(&self.marks[..n])
     }
 }
 
-// Equalizes the n samples that were read, by calls of a block.
-fn calls(
-    o: Ways,
-    curve: Sink<'_>,
-    start: Progress,
-    weights: &mut [f32],
-    window: &mut [f32],
-    raw: &[u8],
-    out: &mut [u8],
-    marks: &mut [u8],
-    n: usize,
-) -> Batch
-    requires { Holds n raw.now out.old marks.old }
-{
-    let mut p = start;
-    let mut at = 0;
-    while at < n {
-        let to = until(at, o.block, n);
-        match called(o, curve, p, weights, window, raw, out, marks, at, to) {
-            Onward::To(q) => p = q,
-            Onward::End(e) => {
-                return Batch {
-                    progress: p,
+// How many samples were served of those that were read, and what ended the calls.
+#[derive(Clone, Copy)]
+struct Served {
+    count: usize,
+    ending: Result<(), Ending>,
+}
+
+// Where a stream stands: its weights and window are lent.
+#[derive(Drop)]
+struct Stream<'a> {
+    ways: Ways,
+    files: Files<'a>,
+    progress: Progress,
+    weights: &'a mut [f32],
+    window: &'a mut [f32],
+}
+
+impl Stream<'_> {
+    // One call on the samples from `at` to before `to`, its marks counted and its point drawn. The room for 4,096 samples takes a while to clear.
+    fn call(&mut self, room: &mut Room, at: usize, to: usize) -> Result<(), Ending>
+        requires { (at ≤ to) × (to ≤ 4096) }
+    {
+        let plain = self.ways.plain;
+        let Progress { state, mut tally } = self.progress;
+        let called = if to - at <= 64 {
+            room.equalize::<128>(plain, state, self.weights, self.window, at, to)
+        } else {
+            room.equalize::<8192>(plain, state, self.weights, self.window, at, to)
+        };
+        let state = called.map_err(Ending::Refused)?;
+        for mark in &room.marks[at..to] {
+            tally.add(*mark);
+        }
+        drawn(self.files.curve, tally, state).map_err(|e| Ending::Unwritten(Target::Curve, e))?;
+        self.progress = Progress { state, tally };
+        Ok(())
+    }
+
+    // Equalizes n samples that were read, by calls of a block.
+    fn calls(&mut self, room: &mut Room, n: usize) -> Served
+        requires { n ≤ 4096 }
+        ensures { result.count ≤ n }
+    {
+        let block = if self.ways.block == 0 {
+            MOST
+        } else {
+            self.ways.block
+        };
+        for at in (0..n).step_by(block) {
+            if let Err(e) = self.call(room, at, at.saturating_add(block).min(n)) {
+                return Served {
                     count: at,
-                    ending: e,
+                    ending: Err(e),
                 };
             }
         }
-        at = to;
-    }
-    Batch {
-        progress: p,
-        count: n,
-        ending: Ending::Whole,
-    }
-}
-
-fn symbols(output: Sink<'_>, is_text: bool, out: &[u8], marks: &[u8], n: usize) -> Result<()>
-    requires { 8 * n ≤ 32768 }
-{
-    if is_text {
-        let mut y = [0.0f32; 8192];
-        cf32::floats(out, &mut y);
-        return lines(output, &y, marks, n);
-    }
-    let mut to = output;
-    text::send(&mut to, out, 8 * n)
-}
-
-// Writes what the calls gave for n samples.
-fn deliver(o: Ways, f: Files<'_>, out: &[u8], marks: &[u8], n: usize) -> Ending
-    requires { 8 * n ≤ 32768 }
-{
-    if let Err(e) = symbols(f.output, o.text, out, marks, n) {
-        return Ending::Unwritten(0, e);
-    }
-    if f.marks.is_wanted() {
-        let mut to = f.marks;
-        if let Err(e) = text::send(&mut to, marks, n) {
-            return Ending::Unwritten(1, e);
+        Served {
+            count: n,
+            ending: Ok(()),
         }
     }
-    Ending::Whole
-}
 
-// What comes after samples that were served and written.
-fn after(b: Batch, got: Filled) -> Turn {
-    let p = b.progress;
-    let e = b.ending;
-    let d = Done {
-        progress: p,
-        ending: e,
-    };
-    if !d.is_whole() {
-        return Turn::End(d);
+    // Writes what the calls gave for n samples.
+    fn deliver(&self, room: &Room, n: usize) -> Result<(), Ending>
+        requires { n ≤ 4096 }
+    {
+        room.symbols(self.files.output, self.ways.text, n)
+            .map_err(|e| Ending::Unwritten(Target::Symbols, e))?;
+        if self.files.marks.is_wanted() {
+            room.marks(self.files.marks, n)
+                .map_err(|e| Ending::Unwritten(Target::Marks, e))?;
+        }
+        Ok(())
     }
-    if got.more {
-        return Turn::More(p);
+
+    // Reads at most `want` samples, equalizes and writes; whether there may be more. What could not be written does not count.
+    fn turn(&mut self, room: &mut Room, want: usize) -> Result<bool, Ending>
+        requires { want ≤ 4096 }
+    {
+        let Filled { bytes, more } = fill(self.files.input, &mut room.raw[..8 * want]);
+        let before = self.progress;
+        let served = self.calls(room, bytes / 8);
+        if let Err(e) = self.deliver(room, served.count) {
+            self.progress = before;
+            return Err(e);
+        }
+        served.ending?;
+        let more = more.map_err(Ending::Unread)?;
+        if !more && bytes % 8 != 0 {
+            return Err(Ending::Truncated(bytes % 8));
+        }
+        Ok(more)
     }
-    Turn::End(Done {
-        progress: p,
-        ending: ended_by(got),
-    })
+
+    // A proved loop has to end, and nothing says that a stream does: no stream uses up the turns.
+    fn run(&mut self) -> Result<(), Ending> {
+        let want = at_once(self.files.at_hand, self.ways.block);
+        let mut room = Room {
+            raw: [0; 32768],
+            out: [0; 32768],
+            marks: [0; 4096],
+        };
+        for _ in 0..u64::MAX {
+            if !self.turn(&mut room, want)? {
+                return Ok(());
+            }
+        }
+        Err(Ending::Unread(io::Error::from(io::ErrorKind::Other)))
+    }
 }
 
 // How many samples are read at once: of a file as many whole blocks as 4,096 samples hold.
-fn at_once(at_hand: bool, block: usize) -> usize {
-    if block < 1 {
-        return 4096;
-    }
-    if block > 4096 {
-        return 4096;
+fn at_once(at_hand: bool, block: usize) -> usize
+    ensures { result ≤ 4096 }
+{
+    if block < 1 || block > MOST {
+        return MOST;
     }
     if at_hand {
-        return 4096 - least(4096 % block, 4096);
+        return MOST - MOST % block;
     }
     block
 }
 
-// Reads, equalizes and writes.
-fn one_turn(
-    o: Ways,
-    f: Files<'_>,
-    p: Progress,
-    weights: &mut [f32],
-    window: &mut [f32],
-    want: usize,
-) -> Turn {
-    let mut raw = [0u8; 32768];
-    let mut out = [0u8; 32768];
-    let mut marks = [0u8; 4096];
-    let most = least(want, 4096);
-    let got = fill(f.input, &mut raw, 8 * most);
-    let n = least(got.bytes / 8, 4096);
-    let b = calls(
-        o, f.curve, p, weights, window, &raw, &mut out, &mut marks, n,
-    );
-    let count = least(b.count, 4096);
-    let e = deliver(o, f, &out, &marks, count);
-    let d = Done {
-        progress: p,
-        ending: e,
-    };
-    if !d.is_whole() {
-        return Turn::End(d);
-    }
-    after(b, got)
-}
-
-// A proved loop has to end, and nothing says that a stream does: the turns are counted down from a number that no stream uses up.
 pub fn all(
     o: Ways,
     f: Files<'_>,
@@ -527,21 +385,19 @@ pub fn all(
     weights: &mut [f32],
     window: &mut [f32],
 ) -> Done {
-    let want = at_once(f.at_hand, o.block);
-    let mut p = Progress {
-        state: start,
-        tally: Tally::NONE,
+    let mut stream = Stream {
+        ways: o,
+        files: f,
+        progress: Progress {
+            state: start,
+            tally: Tally::default(),
+        },
+        weights,
+        window,
     };
-    let mut turns = 0xffff_ffff_ffff_ffffu64;
-    while turns > 0 {
-        match one_turn(o, f, p, weights, window, want) {
-            Turn::More(q) => p = q,
-            Turn::End(d) => return d,
-        }
-        turns -= 1;
-    }
+    let ending = stream.run();
     Done {
-        progress: p,
-        ending: Ending::Unread(io::Error::from(io::ErrorKind::Other)),
+        progress: stream.progress,
+        ending,
     }
 }

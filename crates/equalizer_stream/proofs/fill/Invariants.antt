@@ -1,9 +1,9 @@
--- `equalizer_stream::fill` is safe and ends. Assumes nothing.
+-- `equalizer_stream::fill` reads no more than there is room for, and ends: each read that goes on takes a byte at least. Assumes nothing.
 use Rattle.std.proofs.Common.{◌≡◌, ◌-◌, ◌≤◌, length}
 use Rattle.equalizer_stream.proofs.fill.Given as goal
 
-abbrev pub invariant-loop-have : goal.invariant-loop-have
-invariant-loop-have l = (l.have ≤ l.most) × (length l.raw ≡ length l.fn.raw)
+abbrev pub invariant-loop-bytes : goal.invariant-loop-bytes
+invariant-loop-bytes l = (l.bytes ≤ length l.raw) × (length l.raw ≡ length l.fn.raw)
 
-abbrev pub decreases-loop-have : goal.decreases-loop-have
-decreases-loop-have l = l.most - l.have
+abbrev pub decreases-loop-bytes : goal.decreases-loop-bytes
+decreases-loop-bytes l = length l.raw - l.bytes
