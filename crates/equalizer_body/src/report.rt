@@ -1,6 +1,6 @@
 // What the program says, on standard error; help and version go to standard output.
 use crate::options::{About, Options};
-use equalizer_stream::{Done, Ending, Tally};
+use equalizer_stream::{Done, Ending, Tally, Target};
 use program::arguments::{Fault, Name, Value};
 use program::messages::Part::{Count, Float, Reason, Text, Words};
 use program::messages::{Part, Program, Told};
@@ -164,7 +164,6 @@ fn unwritten(p: Program<'_>, name: Name, e: Error) {
 // What went wrong in a run.
 fn trouble(p: Program<'_>, o: &Options, e: Ending) {
     match e {
-        Ending::Whole => {}
         Ending::Truncated(n) => {
             p.tell(&[
                 Words(b"the input is truncated: "),
@@ -173,11 +172,11 @@ fn trouble(p: Program<'_>, o: &Options, e: Ending) {
             ]);
         }
         Ending::Unread(error) => unread(p, o.input, error),
-        Ending::Unwritten(which, error) => {
-            let name = match which {
-                0 => Some(o.output),
-                1 => o.marks,
-                _ => o.curve,
+        Ending::Unwritten(target, error) => {
+            let name = match target {
+                Target::Symbols => Some(o.output),
+                Target::Marks => o.marks,
+                Target::Curve => o.curve,
             };
             unwritten(p, name.unwrap_or(Name::Standard), error);
         }
@@ -191,7 +190,9 @@ fn trouble(p: Program<'_>, o: &Options, e: Ending) {
 pub(crate) fn done(p: Program<'_>, o: &Options, d: Done) {
     counts(p, d.progress.tally);
     record(p, d.progress.state);
-    trouble(p, o, d.ending);
+    if let Err(e) = d.ending {
+        trouble(p, o, e);
+    }
 }
 
 // Writes help or the version to standard output, all of it.
