@@ -1,12 +1,12 @@
 // The weights' step.
 #![tactic(auto)]
 
-ghost use Rattle.std.specs.Prelude.{◌≡◌, ◌+◌, ◌-◌, ◌<◌, ◌≤◌};
+ghost use Rattle.std.specs.Prelude.{◌≡◌, ◌+◌, ◌<◌, ◌≤◌};
 ghost use Rattle.lanes.specs.Adapts.{Adapts};
 ghost use Rattle.lanes_adapt.specs.Settled.{Settled, ruined};
 ghost use Rattle.lanes_adapt.specs.Steps.{any_of, broken_at, clear_in, clear_of, kept_of, Replaced, step_im, step_re, uneven};
 
-use lanes::{Shape, Weights, Window};
+use lanes::{Weights, Window};
 use types::Update;
 
 // +0 where |v| is below the lane's limit: TINY, and infinity for padding.
@@ -76,7 +76,6 @@ fn broken(w: &Weights, limit: &[f32; 144]) -> bool
 }
 
 // +0 for padding, and for each lane where the weights start anew.
-#[tactic(auto, unfolding(crate::specs::Steps::clear_of))]
 fn clear(v: f32, limit: f32, all: bool) -> f32
     ensures { result ≡ clear_of v limit all }
 {
@@ -105,17 +104,28 @@ fn settle(w: &mut Weights, limit: &[f32; 144], centre: usize)
     }
 }
 
-// The weights' step by the update u: both halves of the lanes, and the start weights where a weight is not finite.
-pub fn update_split(u: Update, w: &mut Weights, limit: &[f32; 144], h: &Window, g: Shape, at: usize)
-    requires { at ≤ 63 }
-    ensures { Adapts u w.old.re w.old.im limit.now h.now.re h.now.im at g.quads (at + 153 - g.front) g.mquads g.centre w.new.re w.new.im }
+// The weights' step by the update u: both halves of the lanes, whose windows begin at `at` and `bt`, and the start weights where a weight is not finite.
+pub fn update_split(
+    u: Update,
+    w: &mut Weights,
+    limit: &[f32; 144],
+    h: &Window,
+    at: usize,
+    lanes: usize,
+    bt: usize,
+    more: usize,
+    centre: usize,
+)
+    requires lanes_bound { (at + lanes ≤ 288) × (lanes ≤ 72) }
+    requires more_bound { (bt + more ≤ 288) × ((more ≤ 72) × (centre < 72)) }
+    ensures { Adapts u w.old.re w.old.im limit.now h.now.re h.now.im at lanes bt more centre w.new.re w.new.im }
 {
     let Update::Step(gr, gi) = u else {
         return;
     };
-    let b1 = update_half(w, limit, h, at, 0, g.quads, gr, gi);
-    let b2 = update_half(w, limit, h, at + 153 - g.front, 72, g.mquads, gr, gi);
+    let b1 = update_half(w, limit, h, at, 0, lanes, gr, gi);
+    let b2 = update_half(w, limit, h, bt, 72, more, gr, gi);
     if b1 | b2 {
-        settle(w, limit, g.centre);
+        settle(w, limit, centre);
     }
 }

@@ -54,8 +54,20 @@ fn hear(
         Adapts (step_of s y forward size).update w.old.re w.old.im call.now.limit h.now.re h.now.im at g.quads
         (at + 153 - g.front) g.mquads g.centre w.new.re w.new.im }
 {
+    let g = call.shape;
+    let bt = at + 153 - g.front;
     let r = steps::follow(s, call.table, y, forward, size);
-    lanes_adapt::update_split(r.update, w, &call.limit, h, call.shape, at);
+    lanes_adapt::update_split(
+        r.update,
+        w,
+        &call.limit,
+        h,
+        at,
+        g.quads,
+        bt,
+        g.mquads,
+        g.centre,
+    );
     steps::heard(r)
 }
 
