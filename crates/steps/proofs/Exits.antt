@@ -1,5 +1,6 @@
 -- Steps 4 to 8 over numbers: one law for each exit. Assumes nothing.
-use Rattle.std.proofs.Common.{◌≡◌, ◌+◌, ◌%◌, ◌^◌, Bool, true, false, cond, ◌&&◌, refl}
+use Rattle.std.proofs.Common.{◌≡◌, ◌+◌, ◌%◌, ◌^◌, Bool, true, false, cond, ◌&&◌}
+use Rattle.std.proofs.Math.Bool.{and_assoc}
 use lib.Ieee.{Float, ne}
 use lib.Ieee.Scale.{finite}
 use Rattle.types.specs.declared.C32.{C32}
@@ -50,18 +51,14 @@ module _ (mode : EqMode) (k : EqConstellation) (t : CosSin) (y d e : C32) where
   unfolding aimed error_of fed_of
   aim-decision h g v a b = rw (h, a, b)
 
-and_three : (l a b : Bool) → (l && a && b) ≡ (l && (a && b))
-and_three true a b = refl
-and_three false a b = refl
-
 module _ (l : Bool) (m : Float) (e : C32) (a b : Bool) (p : a ≡ finite (m *f e.re)) (q : b ≡ finite (m *f e.im)) where
   pub update-yes : ((l && a) && b) ≡ true → Step (m *f e.re) (m *f e.im) ≡ update_if l (scaled_c m e)
   unfolding update_if scaled_c finite_c
-  update-yes h = rw (← p, ← q, ← and_three l a b, h)
+  update-yes h = rw (← p, ← q, ← and_assoc l a b, h)
 
   pub update-no : ((l && a) && b) ≡ false → Hold ≡ update_if l (scaled_c m e)
   unfolding update_if scaled_c finite_c
-  update-no h = rw (← p, ← q, ← and_three l a b, h)
+  update-no h = rw (← p, ← q, ← and_assoc l a b, h)
 
 module _ (l : Bool) (v : C32) where
   pub fed-no : l ≡ false → zero_c ≡ cond l v zero_c
