@@ -9,7 +9,7 @@ ghost use Rattle.definition.specs.Rules.{same_bits, taps_fit, feedback_fits, mu_
 
 use types::{EqMode, EqParams, EqualizeState};
 
-// The same by bits, any two NaNs being the same.
+// The same by bits, any two NaNs being the same. The library's total_cmp asks that there is no NaN.
 fn same_bits(x: f32, y: f32) -> bool
     ensures { result ≡ same_bits x y }
 {
@@ -37,7 +37,7 @@ pub fn taps_fit(n: usize) -> bool
     (n % 2 == 1) & (3..=63).contains(&n)
 }
 
-// From 0.00001 to 1.
+// From 0.00001 to 1. The ranges stand here and not in constants: a constant's value may call nothing, and a range is a call.
 pub fn check_mu(mu: f32) -> bool
     ensures { result ≡ mu_fits mu }
 {

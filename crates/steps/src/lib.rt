@@ -43,7 +43,7 @@ pub struct Stage {
     pub mark: Mark,
 }
 
-// What a sample gives, and the record after it.
+// What a sample gives, and the record after it. Symbol and mark go apart at once, into output and marks, and are no struct of their own.
 #[derive(Clone, Copy)]
 pub struct Sampled {
     pub state: EqualizeState,
@@ -241,7 +241,7 @@ fn mu_of(s: EqualizeState) -> f32
     }
 }
 
-// The step size by the mode and the window power.
+// The step size by the mode and the window power. No method: the record's type is of another crate.
 pub fn size_of(s: EqualizeState, power: f32) -> f32
     ensures { result ≡ step_size (mu_of s.mode s.params) power }
 {
