@@ -157,9 +157,9 @@ fn turned(to: &mut Sink<'_>, p: &mut Page<8192>) -> io::Result<()> {
 fn lines(output: Sink<'_>, y: &[f32], marks: &[u8], count: usize) -> io::Result<()> {
     let mut to = output;
     let mut p: Page<8192> = Page::new();
-    let n = count.min(y.len() / 2).min(marks.len());
-    for i in 0..n {
-        line(&mut p, y[2 * i], y[2 * i + 1], marks[i]);
+    let (symbols, _) = y.as_chunks::<2>();
+    for ([re, im], mark) in symbols.iter().zip(marks).take(count) {
+        line(&mut p, *re, *im, *mark);
         turned(&mut to, &mut p)?;
     }
     to.write_all(p.bytes())
