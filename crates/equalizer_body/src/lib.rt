@@ -16,7 +16,7 @@ use program::messages::Part::Words;
 use program::messages::Program;
 use program::{Status, arguments};
 use std::io::IsTerminal;
-use types::{EqualizeState, Fresh};
+use types::EqualizeState;
 
 // The whole program, and its exit status.
 pub fn served(rt: &HostRuntime) -> Status {
@@ -130,11 +130,11 @@ fn start(
     serve: bool,
 ) -> Result<(), Status> {
     match equalize_state::new(weights, window, o.params()) {
-        Fresh::NotMade(e) => {
+        Err(e) => {
             report::refused(p, e);
             Err(Status::Usage)
         }
-        Fresh::Made(s) => {
+        Ok(s) => {
             if !serve {
                 return Ok(());
             }

@@ -4,8 +4,10 @@ use equalizer_stream::{Done, Ending, Tally, Target};
 use program::arguments::{Fault, Name, Value};
 use program::messages::Part::{Count, Float, Reason, Text, Words};
 use program::messages::{Part, Program, Told};
+use program::text::Page;
 use program::{Status, arguments};
 use std::env::Env;
+use std::fmt;
 use std::io::{Error, Write};
 use types::EqualizeState;
 
@@ -60,47 +62,15 @@ pub(crate) fn fault(p: Program<'_>, f: Fault) -> Told {
     }
 }
 
-// The words of a refusal.
-fn reason(e: types::Error) -> &'static [u8] {
-    match e {
-        types::Error::Odd => b"a complex slice has an odd count of f32",
-        types::Error::Feedback => b"over 63 feedback taps",
-        types::Error::Taps => b"forward taps even or outside 3 to 63",
-        types::Error::Window { .. } => b"the window's length is not the weights'",
-        types::Error::MuCma => b"mu-cma outside 0.00001 to 1",
-        types::Error::MuDd => b"mu-dd outside 0.00001 to 1",
-        types::Error::Bandwidth => b"bandwidth neither 0 nor 0.0001 to 0.2",
-        types::Error::Record => b"the record breaks a rule",
-        types::Error::Output { .. } => b"the output's length is not the input's",
-        types::Error::Marks { .. } => b"the marks' length is not the input's",
-    }
-}
-
 pub(crate) fn refused(p: Program<'_>, e: types::Error) -> Told {
-    let number = Count(u64::from(types_numbers::error_number(e)));
-    let why = Words(reason(e));
-    match e {
-        types::Error::Window { expected, got }
-        | types::Error::Output { expected, got }
-        | types::Error::Marks { expected, got } => p.tell(&[
-            Words(b"refused, number "),
-            number,
-            Words(b": "),
-            why,
-            Words(b": "),
-            Count(expected as u64),
-            Words(b" expected, "),
-            Count(got as u64),
-            Words(b" given"),
-        ]),
-        types::Error::Odd
-        | types::Error::Feedback
-        | types::Error::Taps
-        | types::Error::MuCma
-        | types::Error::MuDd
-        | types::Error::Bandwidth
-        | types::Error::Record => p.tell(&[Words(b"refused, number "), number, Words(b": "), why]),
-    }
+    let mut why: Page<256> = Page::new();
+    let _ = fmt::Write::write_fmt(&mut why, format_args!("{e}"));
+    p.tell(&[
+        Words(b"refused, number "),
+        Count(u64::from(u32::from(e))),
+        Words(b": "),
+        Words(why.bytes()),
+    ])
 }
 
 // Bytes that are no marks are named only where there are some.
