@@ -30,19 +30,25 @@ pub fn served(rt: &HostRuntime) -> Status {
     }
 }
 
-// Reads the options of every run, then runs each.
+// Reads the options of every run and tries them, then serves each.
 fn all(p: Program<'_>) -> Result<(), Status> {
     let count = arguments::count(p.rt);
-    each(p, count, false)?;
-    each(p, count, true)
+    each(p.rt, count, |at, end| tried(p, at, end))?;
+    each(p.rt, count, |at, end| run(p, at, end))
 }
 
-// Reads the options of every run, or runs each, and stops at the first that is not served.
-fn each(p: Program<'_>, count: usize, serve: bool) -> Result<(), Status> {
+// Takes a step with the arguments of every run, and stops at the first that is not served.
+fn each<F: Fn(usize, usize) -> Result<(), Status>>(
+    rt: &HostRuntime,
+    count: usize,
+    step: F,
+) -> Result<(), Status>
+    requires { F.IsAlwaysCallable step }
+{
     let mut at = 1;
     for _ in 0..count {
-        let end = options::end_of(p.rt, at, count);
-        run(p, at, end, serve)?;
+        let end = options::end_of(rt, at, count);
+        step(at, end)?;
         if end >= count {
             break;
         }
@@ -51,27 +57,40 @@ fn each(p: Program<'_>, count: usize, serve: bool) -> Result<(), Status> {
     Ok(())
 }
 
-fn run(p: Program<'_>, at: usize, end: usize, serve: bool) -> Result<(), Status> {
+fn read(p: Program<'_>, at: usize, end: usize) -> Result<Options, Status> {
     match options::read(p.rt, at, end) {
+        Ok(o) => Ok(o),
         Err(f) => {
             report::fault(p, f);
             Err(Status::Usage)
         }
-        Ok(o) => match o.about {
-            None => {
-                is_ready(p, &o)?;
-                job(p, &o, serve)
-            }
-            // Help or the version, once it is its turn.
-            Some(about) => {
-                if serve {
-                    report::about(p, about)
-                } else {
-                    Ok(())
-                }
-            }
-        },
     }
+}
+
+// A run that can begin. Help and the version always can.
+fn tried(p: Program<'_>, at: usize, end: usize) -> Result<(), Status> {
+    let o = read(p, at, end)?;
+    if o.about.is_some() {
+        return Ok(());
+    }
+    is_ready(p, &o)?;
+    let mut weights = [0.0f32; 4096];
+    let mut window = [0.0f32; 4096];
+    let parts = parts_of(&o);
+    made(p, &o, &mut weights[..parts], &mut window[..parts])?;
+    Ok(())
+}
+
+fn run(p: Program<'_>, at: usize, end: usize) -> Result<(), Status> {
+    let o = read(p, at, end)?;
+    if let Some(about) = o.about {
+        return report::about(p, about);
+    }
+    is_ready(p, &o)?;
+    let mut weights = [0.0f32; 4096];
+    let mut window = [0.0f32; 4096];
+    let parts = parts_of(&o);
+    start(p, &o, &mut weights[..parts], &mut window[..parts])
 }
 
 fn usage(p: Program<'_>, words: &[u8]) -> Result<(), Status> {
@@ -115,11 +134,16 @@ fn parts_of(o: &Options) -> usize
     2 * (o.taps.min(999) + o.feedback.min(999))
 }
 
-fn job(p: Program<'_>, o: &Options, serve: bool) -> Result<(), Status> {
-    let mut weights = [0.0f32; 4096];
-    let mut window = [0.0f32; 4096];
-    let parts = parts_of(o);
-    start(p, o, &mut weights[..parts], &mut window[..parts], serve)
+fn made(
+    p: Program<'_>,
+    o: &Options,
+    weights: &mut [f32],
+    window: &mut [f32],
+) -> Result<EqualizeState, Status> {
+    equalize_state::new(weights, window, o.params()).map_err(|e| {
+        report::refused(p, e);
+        Status::Usage
+    })
 }
 
 fn start(
@@ -127,21 +151,10 @@ fn start(
     o: &Options,
     weights: &mut [f32],
     window: &mut [f32],
-    serve: bool,
 ) -> Result<(), Status> {
-    match equalize_state::new(weights, window, o.params()) {
-        Err(e) => {
-            report::refused(p, e);
-            Err(Status::Usage)
-        }
-        Ok(s) => {
-            if !serve {
-                return Ok(());
-            }
-            let state = equalize_state::set_frequency(s, o.frequency);
-            with_input(p, o, state, weights, window)
-        }
-    }
+    let state = made(p, o, weights, window)?;
+    let state = equalize_state::set_frequency(state, o.frequency);
+    with_input(p, o, state, weights, window)
 }
 
 fn with_input(

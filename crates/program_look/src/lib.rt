@@ -108,6 +108,7 @@ fn seen_of(found: Result<Metadata>) -> Seen {
     }
 }
 
+// A ladder: a FileType has tests, and no kind to match on.
 fn kind_of(found: FileType) -> Kind {
     if found.is_file() {
         Kind::File
