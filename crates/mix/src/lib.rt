@@ -50,11 +50,3 @@ pub fn interp_f32_pair(p: u32) -> CosSin
         s: line_at(sine_index(idx), f),
     }
 }
-
-// The same, for callers that still hold a borrowed table: nothing of it is read.
-pub fn interp_f32_pair_in(_t: &[u32; 4097], p: u32) -> CosSin
-    ensures value { result ≡ interp_pair p }
-    ensures value_2 { result ≡ cos_sin p }
-{
-    interp_f32_pair(p)
-}

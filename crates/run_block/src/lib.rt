@@ -2,7 +2,6 @@
 #![tactic(auto)]
 
 ghost use Rattle.std.specs.Prelude.{◌≡◌, true, ◌+◌, ◌*◌, ◌≤◌, length};
-ghost use Rattle.tables.specs.Table.{cos_bits};
 ghost use Rattle.definition.specs.Slices.{samples_of};
 ghost use Rattle.definition.specs.Packed.{equalizer, Ran};
 ghost use Rattle.definition.specs.Rules.{rule_r4};
@@ -92,7 +91,6 @@ fn store_linear(
 
 // A block by n forward and m feedback taps: arrays, all runs, and back.
 pub fn linear_state(
-    t: &[u32; 4097],
     state: EqualizeState,
     weights: &mut [f32],
     window: &mut [f32],
@@ -102,13 +100,11 @@ pub fn linear_state(
     n: usize,
     m: usize,
 ) -> EqualizeState
-    requires t_value { t.now ≡ cos_bits }
-    requires asked { Asked state weights.old window.old input.now output.old marks.old n m }
+    requires { Asked state weights.old window.old input.now output.old marks.old n m }
     ensures { Ran (run_def (equalizer state weights.old window.old) (samples_of input.now))
         (equalizer result weights.new window.new) output.new marks.new }
 {
     let call = Call {
-        table: t,
         n,
         shape: shape_of(n, m),
         limit: lanes_load::limits(n, n % 8, m),

@@ -1,4 +1,4 @@
-// The quick path and the joint path, called: the cosine table is borrowed, and the taps are counted.
+// The quick path and the joint path, called: the taps are counted.
 #![tactic(auto)]
 
 ghost use Rattle.definition.specs.Slices.{samples_of};
@@ -7,7 +7,7 @@ ghost use Rattle.definition.specs.Run.{run_def};
 
 use types::EqualizeState;
 
-// A block of samples of an accepted record. The cosine table is borrowed once for all of it.
+// A block of samples of an accepted record.
 pub fn equalize_linear(
     state: EqualizeState,
     weights: &mut [f32],
@@ -20,9 +20,7 @@ pub fn equalize_linear(
     ensures { Ran (run_def (equalizer state weights.old window.old) (samples_of input.now))
         (equalizer result weights.new window.new) output.new marks.new }
 {
-    let table = &tables::COS_BITS;
-    let p = state.params;
-    let m = p.feedback_taps;
+    let m = state.params.feedback_taps;
     let n = weights.len() / 2 - m;
-    run_block::linear_state(table, state, weights, window, input, output, marks, n, m)
+    run_block::linear_state(state, weights, window, input, output, marks, n, m)
 }

@@ -2,7 +2,6 @@
 #![tactic(auto)]
 
 ghost use Rattle.std.specs.Prelude.{◌≡◌, true, ◌+◌, ◌-◌, ◌*◌, ◌<◌, ◌≤◌, length};
-ghost use Rattle.tables.specs.Table.{cos_bits};
 ghost use Rattle.definition.specs.Rules.{rule_r4};
 ghost use Rattle.lanes.specs.Arrays.{arrays_of};
 ghost use Rattle.lanes.specs.Adapts.{Adapts};
@@ -15,14 +14,12 @@ use lanes_prepare::Ahead;
 use steps::{Sampled, Stage};
 use types::{C32, EqualizeState, Mark};
 
-// What a call fixes: the cosine table, the forward taps, the shape, and the limits of the lanes.
+// What a call fixes: the forward taps, the shape, and the limits of the lanes.
 #[derive(Clone, Copy)]
-pub struct Call<'a> {
-    pub table: &'a [u32; 4097],
+pub struct Call {
     pub n: usize,
     pub shape: Shape,
     pub limit: [f32; 144],
-    pub ghost is_cosine: { table.now ≡ cos_bits },
     pub ghost most: { n ≤ 63 },
 }
 
@@ -56,7 +53,7 @@ fn hear(
 {
     let g = call.shape;
     let bt = at + 153 - g.front;
-    let r = steps::follow(s, call.table, y, forward, size);
+    let r = steps::follow(s, y, forward, size);
     lanes_adapt::update_split(
         r.update,
         w,
@@ -68,7 +65,7 @@ fn hear(
         g.mquads,
         g.centre,
     );
-    steps::heard(r)
+    Stage::from(r)
 }
 
 // The sample x, which stands at `at` in the forward window: steps 2 to 7.
@@ -88,10 +85,10 @@ fn take(
     let f = lanes_sample::measure(call.shape, at, w, h, forward);
     let y = f.y;
     if !numeric::finite_c(x) {
-        return steps::unheard(s, Mark::Blank);
+        return Stage::unheard(s, Mark::Blank);
     }
     if !numeric::finite_c(y) {
-        return steps::unheard(s, Mark::Spilled);
+        return Stage::unheard(s, Mark::Spilled);
     }
     let size = step_size(s, call.shape.m, ahead, f.power);
     hear(s, call, at, y, forward, size, w, h)
@@ -114,7 +111,7 @@ fn sample(
 {
     let r = take(s, call, at, x, forward, ahead, w, h);
     lanes_sample::feed(h, at + 152, r.fed);
-    let state = record_mode::advance(steps::with_track(s, r.track));
+    let state = record_mode::advance(r.track.on(s));
     Sampled {
         state,
         out: r.out,

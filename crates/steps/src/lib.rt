@@ -2,7 +2,6 @@
 #![tactic(auto)]
 
 ghost use Rattle.std.specs.Prelude.{◌≡◌, ◌+◌, ◌%◌, ◌^◌, if◌then◌else◌};
-ghost use Rattle.tables.specs.Table.{cos_bits};
 ghost use Rattle.types.specs.Bits.{one32};
 ghost use Rattle.definition.specs.Floats.{norm, zero_c, scaled_c, clip_c};
 ghost use Rattle.definition.specs.Phase.{phase_step};
@@ -223,12 +222,11 @@ pub fn step(s: EqualizeState, t: CosSin, y: C32, forward: f32, m: f32) -> Steppe
     }
 }
 
-// Steps 4 to 7 by a borrowed table.
-pub fn follow(s: EqualizeState, t: &[u32; 4097], y: C32, forward: f32, size: f32) -> Stepped
-    requires { t.now ≡ cos_bits }
+// Steps 4 to 7 of a record: with cosine and sine of its phase.
+pub fn follow(s: EqualizeState, y: C32, forward: f32, size: f32) -> Stepped
     ensures { result ≡ step_of s y forward size }
 {
-    step(s, mix::interp_f32_pair_in(t, s.phase), y, forward, size)
+    step(s, mix::interp_f32_pair(s.phase), y, forward, size)
 }
 
 // The step size of the mode, before the window power.
@@ -246,23 +244,4 @@ pub fn size_of(s: EqualizeState, power: f32) -> f32
     ensures { result ≡ step_size (mu_of s.mode s.params) power }
 {
     mu_of(s) / (power + EqualizeState::NLMS_EPS)
-}
-
-// The same three, as the runs call them.
-pub fn heard(r: Stepped) -> Stage
-    ensures { result ≡ heard_of r }
-{
-    Stage::from(r)
-}
-
-pub fn unheard(s: EqualizeState, mark: Mark) -> Stage
-    ensures { result ≡ unheard_of s mark }
-{
-    Stage::unheard(s, mark)
-}
-
-pub fn with_track(s: EqualizeState, t: Track) -> EqualizeState
-    ensures { result ≡ with_track s t }
-{
-    t.on(s)
 }

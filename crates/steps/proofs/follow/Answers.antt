@@ -4,4 +4,4 @@ use Rattle.steps.proofs.follow.Goals as goal
 
 pub returns : goal.returns
 unfolding step_of
-returns c = rw (← c.interp_f32_pair_in.ensures.value_2) c.step.ensures
+returns c = rw (← c.interp_f32_pair.ensures.value_2) c.step.ensures
