@@ -56,15 +56,19 @@ pub fn eq_equalize(
         (block result weights.new window.new output.new marks.new) }
 {
     let Ok(state) = EqualizeState::try_from(raw) else {
-        let evens =
-            record_verdict::all_even(weights.len(), window.len(), input.len(), output.len());
+        let evens = record_verdict::all_even(
+            weights.len(),
+            window.len(),
+            input.len(),
+            output.len(),
+        );
         return EqReply::unknown(raw, evens);
     };
     let e = equalize::equalize(state, weights, window, input, output, marks);
     EqReply::from(e)
 }
 
-// A block of samples by the plain path. Refusals 1, 8, 9 and 10.
+// A block of samples by the plain path. Refusals 1, 8, 9 and 10. Two calls of C, each with its path; a function over both would say no more than these lines.
 pub fn eq_reference(
     raw: EqRecord,
     weights: &mut [f32],
@@ -77,8 +81,12 @@ pub fn eq_reference(
         (block result weights.new window.new output.new marks.new) }
 {
     let Ok(state) = EqualizeState::try_from(raw) else {
-        let evens =
-            record_verdict::all_even(weights.len(), window.len(), input.len(), output.len());
+        let evens = record_verdict::all_even(
+            weights.len(),
+            window.len(),
+            input.len(),
+            output.len(),
+        );
         return EqReply::unknown(raw, evens);
     };
     let e = equalize::reference::equalize(state, weights, window, input, output, marks);

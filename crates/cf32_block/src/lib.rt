@@ -8,7 +8,7 @@ ghost use Rattle.cf32_block.specs.Block.{bytes_answer, block_def};
 
 use types::{EqualizeState, Equalized};
 
-// By the plain path, or by the quick or the joint one.
+// By the plain path, or by the quick or the joint one. A test, and no function handed in: `block` is asked by a bool, so that one would be chosen by the same test.
 fn called(
     plain: bool,
     state: EqualizeState,

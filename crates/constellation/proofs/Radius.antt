@@ -1,6 +1,5 @@
 -- Godard's R2 of each constellation, computed. Assumes nothing.
 use mathlib.Core.Path.{◌≡◌, refl}
-use mathlib.Core.Logic.{◌⊎◌, inl, inr}
 use lib.Count.{count_trailing_zeros}
 use lib.Ieee.{Float, of_bits, of_fields, odd, round, units, size, span, climb}
 use Rattle.types.specs.declared.EqConstellation.{EqConstellation}
@@ -27,9 +26,3 @@ radii_are Qam64 = refl
 
 pub radius_is : (k p : EqConstellation) → k ≡ p → radii p ≡ radius k
 radius_is k p h = rw h (radii_are p)
-
--- the three constellations of one modulus
-pub one_is : (k : EqConstellation) → (k ≡ Bpsk) ⊎ ((k ≡ Qpsk) ⊎ (k ≡ Psk8)) → one32 ≡ radius k
-one_is k (inl h) = radius_is k Bpsk h
-one_is k (inr (inl h)) = radius_is k Qpsk h
-one_is k (inr (inr h)) = radius_is k Psk8 h

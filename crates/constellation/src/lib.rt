@@ -44,7 +44,9 @@ pub fn cma_r2(k: EqConstellation) -> f32
     ensures { result ≡ radius k }
 {
     match k {
-        EqConstellation::Bpsk | EqConstellation::Qpsk | EqConstellation::Psk8 => 1.0,
+        EqConstellation::Bpsk => 1.0,
+        EqConstellation::Qpsk => 1.0,
+        EqConstellation::Psk8 => 1.0,
         EqConstellation::Qam16 => QAM16_R2,
         EqConstellation::Qam64 => QAM64_R2,
     }

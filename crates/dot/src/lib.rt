@@ -74,7 +74,8 @@ fn block<P: Part>(a: &mut [f32; 8], t: Taps, i: usize)
     }
 }
 
-// Adds the products i .. i + m - 1, at most eight, in eight turns with a test in each, which unrolls: the partial sums stay in registers.
+// Adds the products i .. i + m - 1, at most eight, in eight turns with a test in each, which unrolls: the partial sums stay in registers. By an index:
+// over `iter_mut` a turn without a product leaves a goal that no answer closed.
 fn rest<P: Part>(a: &mut [f32; 8], t: Taps, i: usize, m: usize)
     requires { (m ≤ 8) × (i + m ≤ t.n) }
     ensures { Added (product_at P.product t.entry.x.now t.entry.w.now) i m a.old a.new }

@@ -4,7 +4,8 @@ ghost use Rattle.definition.specs.Paths.{plain, Promised};
 
 use types::{EqualizeState, Equalized};
 
-// A block of samples by the plain path, or a refusal that leaves all as it was.
+// A block of samples by the plain path, or a refusal that leaves all as it was. Beside `equalize` it has another path and nothing else: a function over the path
+// would take more lines than both have.
 pub fn equalize(
     state: EqualizeState,
     weights: &mut [f32],

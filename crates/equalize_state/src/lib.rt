@@ -72,7 +72,7 @@ pub fn set_mu_cma(state: EqualizeState, mu: f32) -> Equalized
     Equalized::served(EqualizeState { params, ..state })
 }
 
-// Another step size for Decision; else refusal 6.
+// Another step size for Decision; else refusal 6. A setter for each field, as the Rust has: one over the field would be handed it as a function.
 #[tactic(auto, unfolding(definition::specs::Calls::set_mu_dd_def))]
 pub fn set_mu_dd(state: EqualizeState, mu: f32) -> Equalized
     ensures { settled result ≡ set_mu_dd_def state mu }

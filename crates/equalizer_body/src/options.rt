@@ -290,7 +290,8 @@ fn text_of(rt: &HostRuntime, v: Value) -> Result<arguments::Text, Fault> {
     arguments::whole_text_of(rt, v).map_err(|_| Fault::Long(v.at))
 }
 
-// The options of the arguments from `start` to before `end`. Every turn takes an argument, so there are no more turns than arguments.
+// The options of the arguments from `start` to before `end`. Every turn takes an argument or two, so there are no more turns than arguments,
+// and the place goes on by itself.
 pub(crate) fn read(rt: &HostRuntime, start: usize, end: usize) -> Result<Options, Fault> {
     let mut o = Options::default();
     let mut at = start;

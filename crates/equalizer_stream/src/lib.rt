@@ -98,7 +98,7 @@ struct Filled {
     more: io::Result<bool>,
 }
 
-// Reads until raw is full, the input ends or a read fails.
+// Reads until raw is full, the input ends or a read fails. A `while`: it goes on by what a read gave, and counts no index.
 fn fill(mut input: Source<'_>, raw: &mut [u8]) -> Filled
     ensures { result.bytes ≤ length raw.old }
 {

@@ -5,7 +5,7 @@ ghost use Rattle.std.specs.Prelude.{◌≡◌, ◌+◌, ◌*◌, ◌≤◌, leng
 ghost use Rattle.lanes_load.specs.Load.{Joined, Loaded, Moved};
 ghost use Rattle.lanes.specs.Holds.{Limits};
 
-// count complex values of x, from `from` on, into the lanes from `at` on.
+// count complex values of x, from `from` on, into the lanes from `at` on. By an index: it is a place in three arrays, as in `joined`.
 pub fn split(re: &mut [f32], im: &mut [f32], at: usize, x: &[f32], from: usize, count: usize)
     requires count_in_bounds { (at + count ≤ length re.old) × (at + count ≤ length im.old) }
     requires count_in_bounds_2 { 2 * (from + count) ≤ length x.now }

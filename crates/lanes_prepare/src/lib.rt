@@ -35,7 +35,7 @@ impl Ahead {
     };
 }
 
-// The samples of a run into the window, newest first; a sample that is not finite as zero.
+// The samples of a run into the window, newest first; a sample that is not finite as zero. By an index: it is a place in three arrays.
 pub fn enter(h: &mut Window, input: &[f32])
     requires { length input.now ≤ 128 }
     ensures entered { Entered input.now h.old.re h.old.im h.new.re h.new.im }

@@ -83,7 +83,7 @@ fn with_sign(bits: u64, p: u64) -> f32
 
 // x as the nearest f32, ties to even, worked out on the bits. x is g * 2^(e - 1075). From e = 897 on the result is normal and 29 digits go;
 // the leading one of the 24 that stay adds one to the exponent field, and a carry runs on into the field, at most to the infinity.
-// Below, the result is subnormal, or zero, in units of 2^-149.
+// Below, the result is subnormal, or zero, in units of 2^-149. The specification names this form, in place of the library's rounding.
 pub fn narrow(x: f64) -> f32
     ensures { result ≡ narrowDef x }
 {

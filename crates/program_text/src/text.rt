@@ -33,7 +33,7 @@ fn byte(p: &mut [u8], at: usize, b: u8) -> usize
     at
 }
 
-// A text from a place on. Answers the place behind it.
+// A text from a place on. Answers the place behind it. Byte by byte: a byte that finds no room is left out, and the place counts those that found it.
 fn lay(p: &mut [u8], start: usize, t: &[u8]) -> usize
     ensures { LaidAs p.old start t.now p.new result }
 {
