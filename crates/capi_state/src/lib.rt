@@ -7,6 +7,8 @@ ghost use Rattle.capi_state.specs.Raw.{filter, new_raw, reset_raw, set_mu_cma_ra
 use capi_numbers::{EqRecord, EqReply, EqSettings};
 use types::{EqParams, EqualizeState};
 
+// Each promise stands here, in `capi` and in `capi_c`: an exported function says its own.
+
 // A new equalizer.
 #[tactic(auto, using(crate::proofs::Laws::new_unknown, crate::proofs::Laws::new_known))]
 pub fn new(settings: EqSettings, weights: &mut [f32], window: &mut [f32]) -> EqReply

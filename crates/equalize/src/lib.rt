@@ -56,6 +56,9 @@ fn by_runs(taps: usize, feedback: usize, len: usize) -> bool {
     }
 }
 
+// What each path asks and promises of a block stands in its contract again: record and slices come one by one, as the specification has it, and no struct
+// holds them.
+
 // The samples of an accepted call: the linear path without feedback taps, the joint path with them, both in runs of 64, or the plain path.
 fn equalize_paths(
     state: EqualizeState,

@@ -233,7 +233,7 @@ impl Room {
         Ok(e.state)
     }
 
-    // Writes the symbols of n samples.
+    // Writes the symbols of n samples. n is at most 4,096 in each of these: one number and one line.
     fn symbols(&self, output: Sink<'_>, is_text: bool, n: usize) -> io::Result<()>
         requires { n ≤ 4096 }
     {

@@ -9,7 +9,7 @@ use std::fs::{File, OpenOptions};
 use std::io::{Error, Read, Seek, Stdin, Stdout, Write};
 use std::{fs, io};
 
-// The system's numbers of a few errors.
+// The system's numbers of a few errors: a message goes by the number, since the library's kinds tell fewer apart.
 const EEXIST: i32 = 17;
 
 const ENAMETOOLONG: i32 = 36;

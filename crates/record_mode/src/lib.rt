@@ -7,7 +7,8 @@ ghost use Rattle.definition.specs.Rules.{rule_r4};
 
 use types::{EqMode, EqParams, EqualizeState};
 
-// The count and the mode after a sample.
+// The count and the mode after a sample. R4 is asked here, and is no invariant of the record: that goes by value with free fields, as the specification
+// has it, and a call tests it.
 pub fn advance(s: EqualizeState) -> EqualizeState
     requires { rule_r4 s ≡ true }
     ensures { result ≡ advanceDef s }

@@ -34,7 +34,8 @@ fn step_size(s: EqualizeState, m: usize, ahead: f32, power: f32) -> f32
     steps::size_of(s, power)
 }
 
-// A sample whose sum is finite: its step, and the weights after it.
+// A sample whose sum is finite: its step, and the weights after it. `at` is at most 63 in each function: one number and one line, and a type of its own
+// would say no more.
 fn hear(
     s: EqualizeState,
     call: &Call,
