@@ -5,7 +5,9 @@ ghost use Rattle.std.specs.Prelude.{◌≡◌};
 ghost use Rattle.definition.specs.Refusals.{reply_of, fresh_reply};
 ghost use Rattle.capi_numbers.specs.RawRecord.{known_settings, known_record, settings_in, record_in, read_settings, read_record, settings_out, record_out, no_record, replied, unknown as unknownDef, fresh_out};
 
-use types::{EqConstellation, EqMode, EqParams, EqualizeState, Equalized, Error, Lengths, UnknownNumber};
+use types::{
+    EqConstellation, EqMode, EqParams, EqualizeState, Equalized, Error, Lengths, UnknownNumber,
+};
 
 // The settings. Constellations: 0 BPSK, 1 QPSK, 2 8-PSK, 3 16-QAM, 4 64-QAM.
 #[repr(C)]
