@@ -109,9 +109,9 @@ pub fn block(
 {
     let mut s = state;
     for i in 0..marks.len() {
-        let x = slices::at(input, i);
+        let x = complex::at(input, i);
         let r = sample(s, weights, window, x);
-        slices::put(output, i, r.out);
+        complex::put(output, i, r.out);
         marks[i] = u8::from(r.mark);
         s = r.state;
     }

@@ -1,41 +1,11 @@
-// Loops over the weights and the window: complex number i has its real part at 2 i and its imaginary part at 2 i + 1. An index reads and writes them: the
-// library has no chunks_exact_mut, and `at` and `put` say which number it is.
-ghost use Rattle.std.specs.Prelude.{◌≡◌, ◌+◌, ◌*◌, ◌<◌, ◌≤◌, length, slice_set};
-ghost use Rattle.definition.specs.Floats.{◌+f◌, ◌-f◌, ◌*f◌, flush, norm as normDef};
-ghost use Rattle.definition.specs.Slices.{re_at, im_at, shifted, power as powerDef, updated};
+// Loops over the weights and the window.
+ghost use Rattle.std.specs.Prelude.{◌≡◌, ◌+◌, ◌*◌, ◌<◌, ◌≤◌, length};
+ghost use Rattle.definition.specs.Floats.{◌+f◌, ◌-f◌, ◌*f◌, flush};
+ghost use Rattle.definition.specs.Slices.{shifted, power as powerDef, updated};
 ghost use Rattle.definition.specs.Sample.{adapted};
 
 use crate::counts::Taps;
 use types::{C32, Update};
-
-// Complex number i.
-pub(crate) fn at(x: &[f32], i: usize) -> C32
-    requires { 2 * i + 1 < length x.now }
-    ensures { (result.re ≡ re_at x.now i) × (result.im ≡ im_at x.now i) }
-{
-    let j = 2 * i;
-    C32 {
-        re: x[j],
-        im: x[j + 1],
-    }
-}
-
-// Complex number i set to v.
-pub(crate) fn put(x: &mut [f32], i: usize, v: C32)
-    requires { 2 * i + 1 < length x.old }
-    ensures { x.new ≡ slice_set (slice_set x.old (2 * i) v.re) (2 * i + 1) v.im }
-{
-    let j = 2 * i;
-    x[j] = v.re;
-    x[j + 1] = v.im;
-}
-
-// |v|^2
-pub(crate) fn norm(v: C32) -> f32
-    ensures { result ≡ normDef v }
-{
-    v.re * v.re + v.im * v.im
-}
 
 // The first n numbers move up by one, and v goes in at 0.
 pub(crate) fn shift(x: &mut [f32], n: usize, v: C32)
@@ -44,8 +14,8 @@ pub(crate) fn shift(x: &mut [f32], n: usize, v: C32)
 {
     let mut next = v;
     for i in 0..n {
-        let old = at(x, i);
-        put(x, i, next);
+        let old = complex::at(x, i);
+        complex::put(x, i, next);
         next = old;
     }
 }
@@ -57,7 +27,7 @@ pub(crate) fn window_power(x: &[f32], from: usize, first: f32, n: usize) -> f32
 {
     let mut sum = first;
     for i in from..n {
-        sum = sum + norm(at(x, i));
+        sum = sum + complex::norm(complex::at(x, i));
     }
     sum
 }
@@ -78,7 +48,7 @@ fn renew(w: &mut [f32], x: &[f32], g: C32, n: usize)
     ensures { w.new ≡ updated n g w.old x.now }
 {
     for i in 0..n {
-        put(w, i, update_weight(at(w, i), g, at(x, i)));
+        complex::put(w, i, update_weight(complex::at(w, i), g, complex::at(x, i)));
     }
 }
 

@@ -12,7 +12,7 @@ use Rattle.types.specs.declared.EqualizeState.{EqualizeState}
 use Rattle.types.specs.declared.Update.{Update}
 use Rattle.types.specs.declared.Update.TheVariants.{Step, Hold}
 use Rattle.types.specs.Bits.{zero32, one32}
-use Rattle.definition.specs.Floats.{◌+f◌, ◌-f◌, ◌*f◌, mse_alpha, max_freq, flush, clip, zero_c, norm, complex, finite_c, minus_c, clip_c, scaled_c}
+use Rattle.definition.specs.Floats.{◌+f◌, ◌-f◌, ◌*f◌, max_freq, flush, clip, zero_c, norm, complex, finite_c, minus_c, clip_c, scaled_c}
 use Rattle.definition.specs.Phase.{phase_step}
 use Rattle.definition.specs.Points.{decide, radius}
 use Rattle.definition.specs.Turns.{derotated, rotated}
@@ -21,15 +21,6 @@ use Rattle.steps.specs.declared.Aim.{Aim}
 use Rattle.steps.specs.declared.Track.{Track}
 use Rattle.steps.specs.declared.Stepped.{Stepped}
 use Rattle.steps.specs.Step.{track_of, aimed, update_if, step_at, step_with}
-
-module _ (mse : Float) (e : C32) (b : Bool) (f : b ≡ finite (norm e)) where
-  pub mean-yes : b ≡ true → (r : Float) → r ≡ flush (mse +f mse_alpha *f (norm e -f mse)) → r ≡ mse_after mse (norm e)
-  unfolding mse_after
-  mean-yes h r d = rw (← f, h) d
-
-  pub mean-no : b ≡ false → mse ≡ mse_after mse (norm e)
-  unfolding mse_after
-  mean-no h = rw (← f, h)
 
 module _ (s : EqualizeState) (z d e : C32) (b : Bool) (f : b ≡ finite (z.im *f d.re -f z.re *f d.im)) (mse : Float) (m : mse ≡ mse_after s.mse (norm e)) (r : Track) (v : Float) where
   pub tracked-yes : b ≡ true → v ≡ clip (flush (s.freq +f s.ki *f (z.im *f d.re -f z.re *f d.im))) max_freq

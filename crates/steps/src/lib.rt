@@ -114,10 +114,11 @@ impl Stage {
 }
 
 // The mean error after an error e.
+#[tactic(auto, unfolding(definition::specs::Sample::mse_after))]
 fn mean(mse: f32, e: C32) -> f32
     ensures { result ≡ mse_after mse (norm e) }
 {
-    let p = e.re * e.re + e.im * e.im;
+    let p = complex::norm(e);
     if numeric::is_finite(p) {
         return numeric::flush_denormal(mse + MSE_ALPHA * (p - mse));
     }
@@ -150,10 +151,11 @@ fn tracked(s: EqualizeState, z: C32, d: C32, e: C32) -> Track
 }
 
 // Godard's constant modulus error, clipped.
+#[tactic(auto, unfolding(definition::specs::Floats::clip_c, definition::specs::Sample::godard_error))]
 fn modulus(y: C32, radius: f32) -> C32
     ensures { result ≡ clip_c (godard_error y radius) one32 }
 {
-    let f = (y.re * y.re + y.im * y.im) - radius;
+    let f = complex::norm(y) - radius;
     C32 {
         re: numeric::clip(y.re * f, CMA_CLIP),
         im: numeric::clip(y.im * f, CMA_CLIP),
@@ -239,9 +241,17 @@ fn mu_of(s: EqualizeState) -> f32
     }
 }
 
+// A step size over the window power.
+#[tactic(auto, unfolding(definition::specs::Sample::step_size))]
+pub fn step_size(mu: f32, power: f32) -> f32
+    ensures { result ≡ step_size mu power }
+{
+    mu / (power + EqualizeState::NLMS_EPS)
+}
+
 // The step size by the mode and the window power. No method: the record's type is of another crate.
 pub fn size_of(s: EqualizeState, power: f32) -> f32
     ensures { result ≡ step_size (mu_of s.mode s.params) power }
 {
-    mu_of(s) / (power + EqualizeState::NLMS_EPS)
+    step_size(mu_of(s), power)
 }

@@ -1,0 +1,37 @@
+// Complex numbers: number i of an interleaved slice has its real part at 2 i and its imaginary part at 2 i + 1.
+#![tactic(auto)]
+
+ghost use Rattle.std.specs.Prelude.{◌≡◌, ◌+◌, ◌*◌, ◌<◌, length, slice_set};
+ghost use Rattle.definition.specs.Floats.{norm};
+ghost use Rattle.definition.specs.Slices.{re_at, im_at};
+
+use types::C32;
+
+// Complex number i.
+pub fn at(x: &[f32], i: usize) -> C32
+    requires { 2 * i + 1 < length x.now }
+    ensures { (result.re ≡ re_at x.now i) × (result.im ≡ im_at x.now i) }
+{
+    let j = 2 * i;
+    C32 {
+        re: x[j],
+        im: x[j + 1],
+    }
+}
+
+// Complex number i set to v.
+pub fn put(x: &mut [f32], i: usize, v: C32)
+    requires { 2 * i + 1 < length x.old }
+    ensures { x.new ≡ slice_set (slice_set x.old (2 * i) v.re) (2 * i + 1) v.im }
+{
+    let j = 2 * i;
+    x[j] = v.re;
+    x[j + 1] = v.im;
+}
+
+// |v|²
+pub fn norm(v: C32) -> f32
+    ensures { result ≡ norm v }
+{
+    v.re * v.re + v.im * v.im
+}
