@@ -12,7 +12,7 @@ use Rattle.definition.specs.Refusals.{Outcome, reply_of, first_of}
 use Rattle.definition.specs.Sample.{Equalizer}
 use Rattle.definition.specs.Rules.{rules, accepted_def}
 use Rattle.definition.specs.Calls.{lengths_of, verdict_def, Answer, answer_by, equalize_def}
-use Rattle.definition_laws.proofs.Verdicts.{and_true}
+use Rattle.std.proofs.lemmas.Bool.{and_from}
 use Rattle.demands.specs.Demand1 as def
 use Rattle.demands.proofs.Served.{demand1, by_lengths}
 use Rattle.capi_numbers.specs.RawRecord.{known_record, replied, unknown}
@@ -29,7 +29,7 @@ known_over q = out_known q.state
 
 handed_over : (q : Equalizer) → accepted_def q ≡ true → accepted (kept_of q) ≡ true
 unfolding accepted
-handed_over q a = and_true _ _ (known_over q) (subst (λ (p : Equalizer). accepted_def p ≡ true) (sym (there q)) a)
+handed_over q a = and_from _ _ (known_over q) (subst (λ (p : Equalizer). accepted_def p ≡ true) (sym (there q)) a)
 
 -- the reply is the outcome's
 reply_is : (q : Equalizer) (xs ys : List Float) (ms : List ℕ) → (equalize_def q xs ys ms).reply ≡ reply_of (equalize_def q xs ys ms).outcome

@@ -15,7 +15,7 @@ use Rattle.definition.specs.Rules.{rules, accepted_def}
 use Rattle.definition.specs.Packed.{equalizer}
 use Rattle.definition.specs.Calls.{lengths_of, verdict_def, Answer, answer_by, equalize_def}
 use Rattle.definition.specs.Paths.{Path, plain, quick, joint, by_taps}
-use Rattle.definition_laws.proofs.Verdicts.{both}
+use Rattle.std.proofs.lemmas.Bool.{and_parts}
 use Rattle.demands.specs.Traces as def
 use Rattle.capi_numbers.specs.declared.EqRecord.{EqRecord}
 use Rattle.capi_numbers.specs.RawRecord.{known_record, replied}
@@ -27,11 +27,11 @@ use Rattle.capi_demands.specs.Traces.{Kept, equalizer_of, kept_of, accepted, lea
 
 pub known_part : (k : Kept) → accepted k ≡ true → known_record k.raw ≡ true
 unfolding accepted
-known_part k a = (both (known_record k.raw) (accepted_def (equalizer_of k)) a).0
+known_part k a = (and_parts (known_record k.raw) (accepted_def (equalizer_of k)) a).0
 
 pub accepted_part : (k : Kept) → accepted k ≡ true → accepted_def (equalizer_of k) ≡ true
 unfolding accepted
-accepted_part k a = (both (known_record k.raw) (accepted_def (equalizer_of k)) a).1
+accepted_part k a = (and_parts (known_record k.raw) (accepted_def (equalizer_of k)) a).1
 
 -- ---- the record there and back
 

@@ -17,7 +17,7 @@ use Rattle.types.specs.declared.EqParams.{EqParams}
 use Rattle.types.specs.declared.EqualizeState.{EqualizeState}
 use Rattle.types.specs.declared.numbers.UnknownNumber.{UnknownNumber}
 use Rattle.definition.specs.Rules.{mu_fits, rule_r2}
-use Rattle.definition_laws.proofs.Verdicts.{both, and_true}
+use Rattle.std.proofs.lemmas.Bool.{and_parts, and_from}
 use Rattle.capi_numbers.specs.declared.EqSettings.{EqSettings}
 use Rattle.capi_numbers.specs.declared.EqRecord.{EqRecord}
 use Rattle.capi_numbers.specs.RawRecord.{known_settings, known_record, settings_in, record_in, read_settings, read_record, settings_out, record_out, no_record, unknown}
@@ -72,13 +72,13 @@ record_err r x h = go (known_settings r.settings) (known_mode r.mode) h
 pub kept : (r : EqRecord) → known_record r ≡ true → record_out (record_in r) ≡ r
 unfolding known_settings known_record settings_in record_in settings_out record_out
 kept r h =
-    let p = both (known_settings r.settings) (known_mode r.mode) h in
+    let p = and_parts (known_settings r.settings) (known_mode r.mode) h in
     rw (known_back constellation_number constellations Qam64 r.settings.constellation p.0, known_back mode_number modes Decision r.mode p.1)
 
 -- a record out and in again, whose numbers are known: what a call replies can be handed to the next
 pub out_known : (s : EqualizeState) → known_record (record_out s) ≡ true
 unfolding known_settings known_record settings_out record_out
-out_known s = and_true _ _ (constellation_known s.params.constellation) (mode_known s.mode)
+out_known s = and_from _ _ (constellation_known s.params.constellation) (mode_known s.mode)
 
 pub out_in : (s : EqualizeState) → record_in (record_out s) ≡ s
 unfolding settings_in record_in settings_out record_out

@@ -1,22 +1,18 @@
 -- The refusals, whose numbers are `error_number` (types): the two lengths that 4, 9 and 10 return (expected, then got), and the first test that fails.
-use Rattle.std.specs.Prelude.{ℕ, Bool, cond, List, [], ◌∷◌, Result, ⊤, Ok, Err}
+use Rattle.std.specs.Prelude.{ℕ, Bool, cond, List, [], ◌∷◌, Option, Some, None, Result, ⊤, Ok, Err}
 use Rattle.types.specs.declared.Error.{Error}
-use Rattle.types.specs.declared.Error.TheVariants.{Odd, Feedback, Taps, Window, MuCma, MuDd, Bandwidth, Record, Output, Marks}
+use Rattle.types.specs.declared.numbers.Lengths.{Lengths}
 use Rattle.types.specs.declared.EqualizeState.{EqualizeState}
-use Rattle.types.specs.Numbers.{error_number}
+use Rattle.types.specs.Numbers.{error_number, lengths_of}
+
+-- the lengths that a refusal has, as numbers: expected, then got
+abbrev pub values_of : Option Lengths → List ℕ
+values_of None = []
+values_of (Some l) = l.expected ∷ l.got ∷ []
 
 -- the table of document 01: what is returned beside the number
 abbrev pub error_values : Error → List ℕ
-error_values Odd = []
-error_values Feedback = []
-error_values Taps = []
-error_values (Window expected got) = expected ∷ got ∷ []
-error_values MuCma = []
-error_values MuDd = []
-error_values Bandwidth = []
-error_values Record = []
-error_values (Output expected got) = expected ∷ got ∷ []
-error_values (Marks expected got) = expected ∷ got ∷ []
+error_values e = values_of (lengths_of e)
 
 -- whether a call was served, or why not
 abbrev pub Outcome : Type 0

@@ -1,29 +1,19 @@
 -- What flush and clip leave, and where a sum or a product is no NaN. Assumes nothing.
-use Prim.Native.Nat.{ℕ, ◌+◌, ◌*◌, ◌^◌}
-use mathlib.Core.Path.{◌≡◌, refl, subst}
+use Prim.Native.Nat.{ℕ, ◌+◌, ◌*◌, ◌^◌, ◌<◌}
+use native.Mathlib.Omega.{arith}
+use mathlib.Core.Path.{◌≡◌, refl, subst, sym, ap}
 use mathlib.Core.Bool.{Bool, true, false, cond, ◌&&◌, ◌||◌, beq}
 use lib.IntN.{negsuc}
 use lib.Count.{count_trailing_zeros}
 use lib.Dec.{T, ltb}
 use lib.Ieee.{Float, nan, inf, fin, Format, prec, emax, low, up, down, unlike, of_bits, of_fields, odd, to_bits, size, span, climb, units, round, neg, sum, add, mul, lt, le, eq}
-use lib.Ieee.Fits.{and_i, and_r}
+use lib.Ieee.Fits.{and_i, and_r, down_pos}
+use borrow.Author.Tests.{lt-ltb}
 use lib.Ieee.Scale.{finite}
-use Rattle.laws.specs.Order.{number, le_of_not_lt}
+use Rattle.laws.specs.Order.{number, le_of_not_lt, or_l, or_r}
 use Rattle.types.specs.Bits.{zero32}
 use Rattle.definition.specs.Floats.{tiny, max_freq, abs, flush, clip}
 use Rattle.definition.specs.Rules.{plus_zero, weight_fits, freq_fits}
-
-pub or_l : (a b : Bool) → T a → T (a || b)
-or_l true b t = tt
-or_l false b t = absurd t
-
-pub or_r : (a b : Bool) → T b → T (a || b)
-or_r true b t = tt
-or_r false b t = t
-
-pub is_true : (b : Bool) → T b → b ≡ true
-is_true true t = refl
-is_true false t = absurd t
 
 pub is_false : (b : Bool) → (T b → ⊥) → b ≡ false
 is_false true n = absurd (n tt)
@@ -35,12 +25,9 @@ zero_plus : T (plus_zero zero32)
 unfolding plus_zero of_bits of_fields odd to_bits size span climb
 zero_plus = tt
 
-zero_finite : T (finite zero32)
-unfolding of_bits of_fields odd
-zero_finite = tt
-
 pub finite_zero : T (finite zero32)
-finite_zero = zero_finite
+unfolding of_bits of_fields odd
+finite_zero = tt
 
 pub plus_finite : (v : Float) → T (plus_zero v) → T (finite v)
 unfolding plus_zero to_bits
@@ -62,6 +49,29 @@ finite_number : (v : Float) → T (finite v) → T (number v)
 finite_number nan h = h
 finite_number (inf s) h = absurd h
 finite_number (fin s m e) h = tt
+
+-- ---- |x| < tiny, by two tests
+
+some_l : (d b : ℕ) → 0 < d → 0 < 332307 * d + b
+some_l d b h = omega arith
+
+some_r : (d b : ℕ) → 0 < d → 0 < b + 332307 * d
+some_r d b h = omega arith
+
+and_true : (a b : Bool) → b ≡ true → a ≡ (a && b)
+and_true true b h = sym h
+and_true false b h = refl
+
+true_and : (a b : Bool) → a ≡ true → b ≡ (a && b)
+true_and a b h = ap (λ (x : Bool). x && b) (sym h)
+
+pub both_tests : (x : Float) → lt (abs x) tiny ≡ (lt x tiny && lt (neg tiny) x)
+unfolding lt neg of_bits
+both_tests nan = refl
+both_tests (inf true) = refl
+both_tests (inf false) = refl
+both_tests (fin false m e) = and_true (ltb (m * up e * 2 ^ 118) (332307 * down e)) (ltb 0 (332307 * down e + m * up e * 2 ^ 118)) (lt-ltb _ _ (some_l (down e) (m * up e * 2 ^ 118) (down_pos e)))
+both_tests (fin true m e) = true_and (ltb 0 (m * up e * 2 ^ 118 + 332307 * down e)) (ltb (m * up e * 2 ^ 118) (332307 * down e)) (lt-ltb _ _ (some_r (down e) (m * up e * 2 ^ 118) (down_pos e)))
 
 -- ---- flush: what is finite after it fits a weight
 

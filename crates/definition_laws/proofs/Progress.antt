@@ -9,6 +9,7 @@ use lib.ListN.{length, take, drop, get_or, set, length-set, drop_of_length-le}
 use lib.Seq.{take-suc-set, take_all, drop-cons}
 use lib.Dec.{T}
 use lib.Ieee.{Float, nan}
+use lib.Ieee.Bits.{is_true}
 use Rattle.types.specs.declared.C32.{C32}
 use Rattle.types.specs.Numbers.{mark_number}
 use Rattle.definition.specs.Floats.{complex}
@@ -18,7 +19,6 @@ use Rattle.definition.specs.Packed.{Ran}
 use Rattle.definition.specs.Rules.{accepted_def}
 use Rattle.definition.specs.Run.{Run, ahead, run_def, written, symbol_parts, mark_byte}
 use Rattle.definition_laws.proofs.Accept.{accepted_parts, accepted_whole}
-use Rattle.definition_laws.proofs.Parts.{is_true}
 use Rattle.definition_laws.proofs.Kept.{sample_accepted}
 use Rattle.definition_laws.proofs.Runs.{written_append, written_one}
 

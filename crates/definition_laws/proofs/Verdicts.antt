@@ -7,6 +7,7 @@ use native.Mathlib.Omega.{arith}
 use lib.ListN.{length}
 use lib.Ieee.{Float}
 use borrow.Author.Tests.{eqb-true}
+use Rattle.std.proofs.lemmas.Bool.{and_parts, and_from}
 use Rattle.types.specs.declared.Error.{Error}
 use Rattle.std.specs.Prelude.{Ok, Err}
 use Rattle.definition.specs.Refusals.{Outcome, Test, test, first_of}
@@ -14,21 +15,6 @@ use Rattle.definition.specs.Slices.{whole}
 use Rattle.definition.specs.Sample.{Equalizer}
 use Rattle.definition.specs.Rules.{rules, accepted_def}
 use Rattle.definition.specs.Calls.{even, lengths_of, equalize_tests, verdict_def}
-
--- ---- Booleans
-
-pub both : (a b : Bool) → (a && b) ≡ true → (a ≡ true) × (b ≡ true)
-both true b h = (refl, h)
-both false b h = absurd (off h)
-  where
-    off : false ≡ true → ⊥
-    off e = let z : ◌≡◌ {A = ℕ} 0 1 = cc in omega arith
-
-pub and_true : (a b : Bool) → a ≡ true → b ≡ true → (a && b) ≡ true
-and_true a b p q = rw (p, q)
-
-pub no_both : false ≡ true → ⊥
-no_both e = let z : ◌≡◌ {A = ℕ} 0 1 = cc in omega arith
 
 -- ---- the first test that fails
 
@@ -84,10 +70,10 @@ served_fits q xs ys ms h =
     let c = fine _ _ _ b.1 in
     let d = fine _ _ _ c.1 in
     let w = whole q.weights && whole q.window in
-    let wxy = both (w && even (length xs)) (even (length ys)) a.0 in
-    let wx = both w (even (length xs)) wxy.0 in
+    let wxy = and_parts (w && even (length xs)) (even (length ys)) a.0 in
+    let wx = and_parts w (even (length xs)) wxy.0 in
     record {
-      accepted = and_true w (rules q) wx.0 b.0;
+      accepted = and_from w (rules q) wx.0 b.0;
       even_in = eqb-true _ _ wx.1;
       even_out = eqb-true _ _ wxy.1;
       output = eqb-true _ _ c.0;

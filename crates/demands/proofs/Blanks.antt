@@ -23,7 +23,7 @@ use Rattle.definition.specs.Rules.{count_fits, rule_r4, TapCounts}
 use Rattle.definition.specs.Run.{Run, ahead, run_def}
 use Rattle.definition_laws.proofs.Accept.{Accepted, accepted_parts, shape}
 use Rattle.definition_laws.proofs.Kept.{advance_keeps, sample_accepted}
-use Rattle.definition_laws.proofs.Verdicts.{both}
+use Rattle.std.proofs.lemmas.Bool.{and_parts}
 use Rattle.demands.specs.Blanks.{all_blank, blank_out, count_after, mode_at, window_after, BlankRun, BlanksClaim, ClearClaim}
 
 -- ---- one blank
@@ -205,7 +205,7 @@ after_blanks zero q [] a l b = blank_none q a
 after_blanks zero q (x ∷ xs) a l b = absurd (some_more (length xs) l)
 after_blanks (suc k) q [] a l b = absurd (some_more k (sym l))
 after_blanks (suc k) q (x ∷ xs) a l b =
-    let f = both (not (finite_c x)) (all_blank xs) b in
+    let f = and_parts (not (finite_c x)) (all_blank xs) b in
     let e : sample_def q x ≡ blank_did q = blank_sample q x (not_true (finite_c x) f.0) in
     let a' : Accepted (blanked q) = subst (λ (d : Did). Accepted d.equalizer) e (sample_accepted q x a) in
     subst (λ (d : Did). BlankRun q (suc k) (ahead (d.out ∷ []) (run_def d.equalizer xs))) (sym e)

@@ -20,7 +20,7 @@ use Rattle.definition.specs.Rules.{accepted_def}
 use Rattle.definition.specs.Run.{Run, ahead, run_def, written, symbol_parts, mark_byte}
 use Rattle.definition_laws.proofs.Accept.{accepted_parts, shape}
 use Rattle.definition_laws.proofs.Runs.{run_append, written_append}
-use Rattle.definition_laws.proofs.Verdicts.{both, and_true}
+use Rattle.std.proofs.lemmas.Bool.{and_parts, and_from}
 use Rattle.demands.specs.Traces.{Observed, Follow, samples, symbols, marks, left}
 use Rattle.demands.specs.Cut.{OneRun, Same}
 use Rattle.demands.specs.Blanks.{all_blank, Blanks, blank_out, count_after, mode_at, AfterBlanks, BlankRun}
@@ -35,8 +35,8 @@ unfolding all_blank
 blanks_take zero xs b = refl
 blanks_take (suc k) [] b = refl
 blanks_take (suc k) (x ∷ xs) b =
-    let f = both (not (finite_c x)) (all_blank xs) b in
-    and_true (not (finite_c x)) (all_blank (take k xs)) f.0 (blanks_take k xs f.1)
+    let f = and_parts (not (finite_c x)) (all_blank xs) b in
+    and_from (not (finite_c x)) (all_blank (take k xs)) f.0 (blanks_take k xs f.1)
 
 first_blanks : (k n : ℕ) (xs : List C32) → k ≤ n → Blanks n xs → Blanks k (take k xs)
 first_blanks k n xs h b = record { many = length-take-le k xs (omega (arith, b.many)); each = blanks_take k xs b.each }

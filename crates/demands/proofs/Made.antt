@@ -10,6 +10,8 @@ use borrow.Author.Tests.{lt-ltb, eq-eqb, eqb-true, eqb-false}
 use lib.Ieee.{Float, nan, inf, fin, binary32, to_bits, is_nan}
 use lib.Ieee.Fits.{eq→eqb}
 use lib.Ieee.Scale.{finite}
+use lib.Ieee.Bits.{is_true}
+use Rattle.std.specs.Bool.{passes}
 use Rattle.types.specs.declared.EqMode.TheVariants.{Cma, Decision}
 use Rattle.types.specs.declared.EqParams.{EqParams}
 use Rattle.types.specs.declared.EqualizeState.{EqualizeState}
@@ -25,14 +27,12 @@ use Rattle.definition.specs.Rules.{same_bits, taps_fit, feedback_fits, mu_fits, 
 use Rattle.types.specs.Start.{start_mode, start_state}
 use Rattle.definition.specs.Calls.{start_over, fresh_state, new_tests, new_verdict, new_by, new_def, reset_verdict, reset_by, reset_def, with_params, with_mus, SetAnswer, set_answer, set_mu_cma_def, set_mu_dd_def, held_freq, set_frequency_def}
 use Rattle.definition_laws.proofs.Every.{every-replicate, length_start}
-use Rattle.definition_laws.proofs.Parts.{is_true, finite_zero, zero_freq_fits, freq_fits_lem}
+use Rattle.definition_laws.proofs.Parts.{finite_zero, zero_freq_fits, freq_fits_lem}
 use Rattle.definition_laws.proofs.Accept.{Accepted, accepted_parts, accepted_whole}
 use Rattle.definition_laws.proofs.Kept.{start_fits}
-use Rattle.definition_laws.proofs.Verdicts.{both, fine, refused_not}
+use Rattle.std.proofs.lemmas.Bool.{and_parts}
+use Rattle.definition_laws.proofs.Verdicts.{fine, refused_not}
 use Rattle.demands.specs.Demand1.{with_state, OthersAccepted, OthersRefused, SettersMove}
-
-of_true : {b : Bool} → b ≡ true → T b
-of_true e = subst T (sym e) tt
 
 -- ---- R2 in its five parts
 
@@ -46,10 +46,10 @@ record R2Parts (s : EqualizeState) : Type 0 where
 r2_parts : (s : EqualizeState) → rule_r2 s ≡ true → R2Parts s
 unfolding rule_r2
 r2_parts s h =
-    let d = both _ _ h in
-    let c = both _ _ d.0 in
-    let b = both _ _ c.0 in
-    let a = both _ _ b.0 in
+    let d = and_parts _ _ h in
+    let c = and_parts _ _ d.0 in
+    let b = and_parts _ _ c.0 in
+    let a = and_parts _ _ b.0 in
     record { cma = a.0; dd = a.1; bw = b.1; kp = c.1; ki = d.1 }
 
 r2_whole : (s : EqualizeState) → R2Parts s → rule_r2 s ≡ true
@@ -99,8 +99,8 @@ module _ (p : EqParams) (kp ki : Float) (n : ℕ) (fb : feedback_fits p.feedback
   start-accepted = is_true _ (accepted_whole (start_over (start_state p kp ki) n) (record {
     whole_w = unfold start_over start_state in (even_twice n _ (length_start n ((n - p.feedback_taps) / 2)));
     whole_h = unfold start_over start_state in (even_twice n _ (length-replicate (2 * n) zero32));
-    r1 = of_true start-r1;
-    r2 = unfold start_over in (of_true gains);
+    r1 = passes _ start-r1;
+    r2 = unfold start_over in (passes _ gains);
     weights = unfold start_over start_state in (start_fits n ((n - p.feedback_taps) / 2));
     window = unfold start_over start_state in (every-replicate finite (2 * n) zero32 finite_zero);
     freq = unfold start_over start_state in zero_freq_fits;
@@ -147,9 +147,9 @@ reset_by_lem q (Err e) v m = absurd (refused_not e (sym m))
 reset_by_lem q (Ok tt) v m =
     let a = fine _ _ _ v in
     let b = fine _ _ _ a.1 in
-    let r = both (rule_r1 q) (rule_r2 q.state) b.0 in
+    let r = and_parts (rule_r1 q) (rule_r2 q.state) b.0 in
     let one : (feedback_fits (feedback q) && taps_fit (forward q) && eqb (complex_length q.weights) (complex_length q.window)) ≡ true = unfold rule_r1 in r.0 in
-    let two = both _ _ (both _ _ one).0 in
+    let two = and_parts _ _ (and_parts _ _ one).0 in
     let s = q.state in
     start-accepted s.params s.kp s.ki (all_taps q) two.0 two.1 (unfold rule_r2 start_state in r.1)
 
@@ -165,7 +165,7 @@ changed q t a fb cma gains freq m n = is_true _ (accepted_whole (with_state q t)
   whole_w = a.whole_w;
   whole_h = a.whole_h;
   r1 = unfold rule_r1 in (rw fb a.r1);
-  r2 = of_true gains;
+  r2 = passes _ gains;
   weights = a.weights;
   window = a.window;
   freq = freq;
@@ -174,7 +174,7 @@ changed q t a fb cma gains freq m n = is_true _ (accepted_whole (with_state q t)
 
 module _ (q : Equalizer) (mu : Float) (t : accepted_def q ≡ true) where
   parts : Accepted q
-  parts = accepted_parts q (of_true t)
+  parts = accepted_parts q (passes _ t)
 
   two : R2Parts q.state
   two = r2_parts q.state (is_true _ parts.r2)
@@ -206,7 +206,7 @@ held_fits (fin s m e) = freq_fits_lem (fin s m e) tt
 
 set_freq : (q : Equalizer) (v : Float) → accepted_def q ≡ true → accepted_def (with_state q (set_frequency_def q.state v)) ≡ true
 unfolding set_frequency_def
-set_freq q v t = let a = accepted_parts q (of_true t) in changed q (set_frequency_def q.state v) a refl refl (unfold rule_r2 in (is_true _ a.r2)) (held_fits v) refl refl
+set_freq q v t = let a = accepted_parts q (passes _ t) in changed q (set_frequency_def q.state v) a refl refl (unfold rule_r2 in (is_true _ a.r2)) (held_fits v) refl refl
 
 pub others_accepted : OthersAccepted
 unfolding new_def reset_def

@@ -9,6 +9,7 @@ use native.Mathlib.Omega.{arith}
 use lib.ListN.{length}
 use lib.Dec.{T, eqb}
 use lib.Ieee.{Float}
+use lib.Ieee.Bits.{is_true}
 use Rattle.types.specs.declared.C32.{C32}
 use Rattle.types.specs.declared.Error.TheVariants.{Odd, Record, Output, Marks}
 use Rattle.std.specs.Prelude.{Ok, Err}
@@ -19,12 +20,12 @@ use Rattle.definition.specs.Sample.{Equalizer, all_taps, forward, step1, step8, 
 use Rattle.definition.specs.Rules.{rules, accepted_def}
 use Rattle.definition.specs.Run.{run_def, written}
 use Rattle.definition.specs.Calls.{even, lengths_of, equalize_tests, verdict_def, answer_by, equalize_def}
-use Rattle.definition_laws.proofs.Parts.{is_true}
 use Rattle.definition_laws.proofs.Accept.{accepted_parts, accepted_whole}
 use Rattle.definition_laws.proofs.Kept.{run_accepted}
 use Rattle.definition_laws.proofs.Exits.{stage-mark}
 use Rattle.definition_laws.proofs.Runs.{run_outs, symbols_length, marks_length, samples_length}
-use Rattle.definition_laws.proofs.Verdicts.{both, served_fits}
+use Rattle.std.proofs.lemmas.Bool.{and_parts}
+use Rattle.definition_laws.proofs.Verdicts.{served_fits}
 use Rattle.demands.specs.Demand1.{ServedCall, RefusedCall, Demand1, lengths_verdict, ByLengths, mark_given, EveryMark}
 
 -- an accepted equalizer stays accepted over a block
@@ -66,7 +67,7 @@ pub by_lengths : ByLengths
 unfolding accepted_def
 by_lengths q xs ys ms a =
     let w = whole q.weights && whole q.window in
-    let s = both w (rules q) a in
+    let s = and_parts w (rules q) a in
     outcome_is q xs ys ms ∙ unfold verdict_def equalize_tests lengths_verdict in (go w (even (length xs)) (even (length ys)) (rules q) s.0 s.1)
   where
     go : (w x y r : Bool) → w ≡ true → r ≡ true

@@ -13,13 +13,14 @@ use lib.Pow.{pow-add, pow_mono, shl_lt}
 use lib.Ieee.{Float, nan, inf, fin, binary32, up, down, of_bits, of_fields, odd}
 use lib.Ieee.Fits.{and_i}
 use lib.Ieee.Scale.{finite}
+use lib.Ieee.Bits.{is_true}
+use Rattle.std.specs.Bool.{passes}
 use Rattle.laws.specs.Bound.{AtMost, Within, Held, add_at_most, at_most_finite, within_mul, within_add, within_sub}
 use Rattle.types.specs.declared.C32.{C32}
 use Rattle.types.specs.Bits.{zero32}
 use Rattle.definition.specs.Floats.{◌+f◌, ◌*f◌, zero_c, finite_c}
 use Rattle.definition.specs.Slices.{re_at, im_at, every, prod_re, prod_im, lane, lane_count, tree, sum8, filter_sum}
 use Rattle.definition.specs.Sample.{all_taps, forward, sanitized, step1, step2}
-use Rattle.definition_laws.proofs.Parts.{is_true}
 use Rattle.definition_laws.proofs.Every.{every-at, every-shifted}
 use Rattle.definition_laws.proofs.Accept.{accepted_parts, shape}
 use Rattle.definition_laws.proofs.Kept.{step1_length}
@@ -141,17 +142,14 @@ sanitized_up_to b x r i = go (finite_c x)
     go true = (r, i)
     go false = (zero_up_to b, zero_up_to b)
 
-of_true : {b : Bool} → b ≡ true → T b
-of_true e = subst T (sym e) tt
-
 pub no_spill : NoSpill
 unfolding step2 filter_sum finite_c
 no_spill q x a b k acc taps bound w h r i =
-    let z = shape q (accepted_parts q (of_true acc)) in
-    let o = sanitized_up_to b x (of_true r) (of_true i) in
+    let z = shape q (accepted_parts q (passes _ acc)) in
+    let o = sanitized_up_to b x (passes _ r) (passes _ i) in
     let g = step1 (forward q) x q.window in
     let n = all_taps q in
-    let e : T (every (up_to b) g) = unfold step1 in (every-shifted (up_to b) (forward q) (sanitized x) q.window o.0 o.1 (of_true h)) in
+    let e : T (every (up_to b) g) = unfold step1 in (every-shifted (up_to b) (forward q) (sanitized x) q.window o.0 o.1 (passes _ h)) in
     let lg : 2 * n ≤ length g = le_of_eq (sym (step1_length q z x ∙ z.window)) in
     let lw : 2 * n ≤ length q.weights = le_of_eq (sym z.weights) in
     let some : 1 ≤ n = omega (arith, z.sum, z.some) in
@@ -161,5 +159,5 @@ no_spill q x a b k acc taps bound w h r i =
     let low_enough : b + a + 1 ≤ 127 = omega (arith, two_or_more n k some t) in
     is_true _
     (and_i (finite (sum8 (prod_re g q.weights) n)) (finite (sum8 (prod_im g q.weights) n))
-    (re-finite g q.weights n a b few low_enough fits lg lw (part_at b g e) (part_at a q.weights (of_true w)))
-    (im-finite g q.weights n a b few low_enough fits lg lw (part_at b g e) (part_at a q.weights (of_true w))))
+    (re-finite g q.weights n a b few low_enough fits lg lw (part_at b g e) (part_at a q.weights (passes _ w)))
+    (im-finite g q.weights n a b few low_enough fits lg lw (part_at b g e) (part_at a q.weights (passes _ w))))

@@ -20,14 +20,15 @@ use Rattle.definition.specs.Slices.{zeros, start_weights}
 use Rattle.definition.specs.Packed.{equalizer, made, reset_to}
 use Rattle.definition.specs.Rules.{feedback_fits, taps_fit, rule_r1, rule_r2}
 use Rattle.definition.specs.Calls.{even, new_tests, new_verdict, start_over, fresh_state, new_def, reset_verdict, reset_def}
-use Rattle.definition_laws.proofs.Verdicts.{both, fine}
+use Rattle.std.proofs.lemmas.Bool.{and_parts}
+use Rattle.definition_laws.proofs.Verdicts.{fine}
 
 -- ---- new
 
 -- an odd number from 3 to 63 is at least 1
 pub fits_some : (n : ℕ) → taps_fit n ≡ true → 3 ≤ n
 unfolding taps_fit
-fits_some n h = leb→le 3 n (subst T (sym (both (eqb (n % 2) 1) (leb 3 n) (both (eqb (n % 2) 1 && leb 3 n) (leb n 63) h).0).1) tt)
+fits_some n h = leb→le 3 n (subst T (sym (and_parts (eqb (n % 2) 1) (leb 3 n) (and_parts (eqb (n % 2) 1 && leb 3 n) (leb n 63) h).0).1) tt)
 
 module _ (p : EqParams) (w h : List Float) (v : Outcome) (e : v ≡ new_verdict p (length w) (length h)) where
   -- what `start_over` asks
@@ -39,7 +40,7 @@ module _ (p : EqParams) (w h : List Float) (v : Outcome) (e : v ≡ new_verdict 
       let y = fine _ Feedback _ x.1 in
       let z = fine _ Taps _ y.1 in
       let u = fine _ _ _ z.1 in
-      let o = both (even (length w)) (even (length h)) x.0 in
+      let o = and_parts (even (length w)) (even (length h)) x.0 in
       let W : length w % 2 ≡ 0 = eqb-true _ _ o.0 in
       let H : length h % 2 ≡ 0 = eqb-true _ _ o.1 in
       let S : length h / 2 ≡ length w / 2 = eqb-true _ _ u.0 in
@@ -73,9 +74,9 @@ module _ (s : EqualizeState) (w h : List Float) (v : Outcome) (p : v ≡ reset_v
   reset_fits d f a =
       let x = fine (even (length w) && even (length h)) Odd _ (sym p ∙ d) in
       let y = fine (rule_r1 (equalizer s w h) && rule_r2 s) Record _ x.1 in
-      let o = both (even (length w)) (even (length h)) x.0 in
-      let r = both (feedback_fits s.params.feedback_taps && taps_fit (length w / 2 - s.params.feedback_taps)) (eqb (length w / 2) (length h / 2)) (both _ _ y.0).0 in
-      let t = both (feedback_fits s.params.feedback_taps) (taps_fit (length w / 2 - s.params.feedback_taps)) r.0 in
+      let o = and_parts (even (length w)) (even (length h)) x.0 in
+      let r = and_parts (feedback_fits s.params.feedback_taps && taps_fit (length w / 2 - s.params.feedback_taps)) (eqb (length w / 2) (length h / 2)) (and_parts _ _ y.0).0 in
+      let t = and_parts (feedback_fits s.params.feedback_taps) (taps_fit (length w / 2 - s.params.feedback_taps)) r.0 in
       let W : length w % 2 ≡ 0 = eqb-true _ _ o.0 in
       let H : length h % 2 ≡ 0 = eqb-true _ _ o.1 in
       let S : length w / 2 ≡ length h / 2 = eqb-true _ _ r.1 in

@@ -11,13 +11,14 @@ use lib.Seq.{get_or-set_same, get_or-set_other}
 use lib.Dec.{T}
 use lib.Ieee.{Float, nan}
 use lib.Ieee.Scale.{finite}
+use lib.Ieee.Bits.{is_true}
 use Rattle.types.specs.declared.Update.{Update}
 use Rattle.types.specs.declared.Update.TheVariants.{Step, Hold}
 use Rattle.types.specs.Bits.{zero32, one32}
 use Rattle.definition.specs.Floats.{complex}
 use Rattle.definition.specs.Slices.{re_at, im_at, new_re, new_im, updated, every, start_weights}
 use Rattle.definition.specs.Sample.{adapted, reset_unless}
-use Rattle.definition_laws.proofs.Parts.{is_true, is_false}
+use Rattle.definition_laws.proofs.Parts.{is_false}
 use Rattle.definition_laws.proofs.Every.{length_updated, length_start, every-at}
 use Rattle.lanes_adapt.specs.Steps.{uneven, step_re, step_im, any_of, broken_in, clear_in, Replaced, Within}
 use Rattle.lanes.specs.Holds.{Lies, Half, Weights}

@@ -1,44 +1,23 @@
 -- The code's tests against the definition's: flush by the limit, finiteness by differences, tests of all lanes. Assumes nothing.
-use Prim.Native.Nat.{ℕ, zero, suc, ◌+◌, ◌*◌, ◌^◌, ◌<◌}
-use mathlib.Core.Path.{◌≡◌, refl, sym, ◌∙◌, ap, subst}
+use Prim.Native.Nat.{ℕ, zero, suc, ◌<◌}
+use mathlib.Core.Path.{◌≡◌, refl, sym, ◌∙◌, subst}
 use mathlib.Core.Bool.{Bool, true, false, not, ◌&&◌, ◌||◌}
 use mathlib.Core.List.{List, [], ◌∷◌}
 use native.Mathlib.Omega.{arith}
 use native.Mathlib.Decide.{ℕ_discrete}
 use lib.IntN.{pos}
 use lib.Count.{count_trailing_zeros}
-use lib.Dec.{T, ltb}
-use borrow.Author.Tests.{lt-ltb}
+use lib.Dec.{T}
 use lib.ListN.{length, get_or}
-use lib.Ieee.{Float, nan, inf, fin, binary32, of_bits, of_fields, odd, up, down, lt, eq, ne, neg, sub, add}
-use lib.Ieee.Fits.{down_pos, and_i}
+use lib.Ieee.{Float, nan, inf, fin, binary32, of_bits, of_fields, odd, lt, eq, ne, neg, sub, add}
+use lib.Ieee.Fits.{and_i}
 use lib.Ieee.Scale.{finite}
 use Rattle.laws.specs.Exact.{minus_itself}
 use Rattle.types.specs.Bits.{zero32, one32}
-use Rattle.definition.specs.Floats.{◌-f◌, tiny, abs, flush}
+use Rattle.definition.specs.Floats.{◌-f◌, tiny, flush}
 use Rattle.definition.specs.Slices.{every}
+use Rattle.definition_laws.proofs.Parts.{both_tests}
 use Rattle.lanes_adapt.specs.Steps.{kept_of, uneven, any_of}
-
-some_l : (d b : ℕ) → 0 < d → 0 < 332307 * d + b
-some_l d b h = omega arith
-
-some_r : (d b : ℕ) → 0 < d → 0 < b + 332307 * d
-some_r d b h = omega arith
-
-and_true : (a b : Bool) → b ≡ true → a ≡ (a && b)
-and_true true b h = sym h
-and_true false b h = refl
-
-true_and : (a b : Bool) → a ≡ true → b ≡ (a && b)
-true_and a b h = ap (λ (x : Bool). x && b) (sym h)
-
-both_tests : (x : Float) → lt (abs x) tiny ≡ (lt x tiny && lt (neg tiny) x)
-unfolding lt neg of_bits of_fields odd count_trailing_zeros
-both_tests nan = refl
-both_tests (inf true) = refl
-both_tests (inf false) = refl
-both_tests (fin false m e) = and_true (ltb (m * up e * 2 ^ 118) (332307 * down e)) (ltb 0 (332307 * down e + m * up e * 2 ^ 118)) (lt-ltb _ _ (some_l (down e) (m * up e * 2 ^ 118) (down_pos e)))
-both_tests (fin true m e) = true_and (ltb 0 (m * up e * 2 ^ 118 + 332307 * down e)) (ltb (m * up e * 2 ^ 118) (332307 * down e)) (lt-ltb _ _ (some_r (down e) (m * up e * 2 ^ 118) (down_pos e)))
 
 pub kept_tiny : (v : Float) → kept_of v tiny ≡ flush v
 unfolding kept_of flush

@@ -2,17 +2,14 @@
 use mathlib.Core.Path.{◌≡◌, refl, sym, ap, ◌∙◌}
 use mathlib.Core.Logic.{◌⊎◌, inl, inr}
 use mathlib.Core.Bool.{Bool, true, false, not, cond, ◌&&◌}
-use Prim.Native.Nat.{ℕ, ◌+◌, ◌*◌, ◌^◌, ◌<◌}
-use native.Mathlib.Omega.{arith}
-use lib.Dec.{T, ltb}
-use borrow.Author.Tests.{lt-ltb}
-use lib.Ieee.{Float, nan, inf, fin, up, down, lt, le, neg, of_bits}
-use lib.Ieee.Fits.{down_pos}
+use lib.Dec.{T}
+use lib.Ieee.{Float, nan, inf, fin, lt, le, neg}
 use lib.Ieee.Scale.{finite}
 use Rattle.std.specs.Float.{float_is_finite}
 use Rattle.laws.specs.Order.{number, le_of_not_lt, le_itself, neg_number}
 use Rattle.types.specs.Bits.{zero32}
 use Rattle.definition.specs.Floats.{abs, tiny, flush, clip}
+use Rattle.definition_laws.proofs.Parts.{both_tests}
 
 -- ---- `is_finite`
 
@@ -22,28 +19,7 @@ is_finite_lem nan = refl
 is_finite_lem (inf s) = refl
 is_finite_lem (fin s m e) = refl
 
--- ---- |x| < tiny, by two tests
-
-some_l : (d b : ℕ) → 0 < d → 0 < 332307 * d + b
-some_l d b h = omega arith
-
-some_r : (d b : ℕ) → 0 < d → 0 < b + 332307 * d
-some_r d b h = omega arith
-
-and_true : (a b : Bool) → b ≡ true → a ≡ (a && b)
-and_true true b h = sym h
-and_true false b h = refl
-
-true_and : (a b : Bool) → a ≡ true → b ≡ (a && b)
-true_and a b h = ap (λ (x : Bool). x && b) (sym h)
-
-pub both_tests : (x : Float) → lt (abs x) tiny ≡ (lt x tiny && lt (neg tiny) x)
-unfolding lt neg of_bits
-both_tests nan = refl
-both_tests (inf true) = refl
-both_tests (inf false) = refl
-both_tests (fin false m e) = and_true (ltb (m * up e * 2 ^ 118) (332307 * down e)) (ltb 0 (332307 * down e + m * up e * 2 ^ 118)) (lt-ltb _ _ (some_l (down e) (m * up e * 2 ^ 118) (down_pos e)))
-both_tests (fin true m e) = true_and (ltb 0 (m * up e * 2 ^ 118 + 332307 * down e)) (ltb (m * up e * 2 ^ 118) (332307 * down e)) (lt-ltb _ _ (some_r (down e) (m * up e * 2 ^ 118) (down_pos e)))
+-- ---- `flush`
 
 -- the exits, by the answers of the two tests
 pub flush_yes : (x : Float) → lt x (tiny) ≡ true → lt (neg (tiny)) x ≡ true → zero32 ≡ flush x

@@ -9,6 +9,7 @@ use lib.ListN.{length, take, drop, length-drop, drop_of_length-le}
 use lib.Seq.{take_all}
 use lib.Dec.{T}
 use lib.Ieee.{Float}
+use lib.Ieee.Bits.{is_true}
 use Rattle.types.specs.declared.C32.{C32}
 use Rattle.types.specs.declared.CosSin.{CosSin}
 use Rattle.types.specs.declared.EqualizeState.{EqualizeState}
@@ -21,7 +22,6 @@ use Rattle.definition.specs.Sample.{Did, sanitized, step1, step2, mu_of, step_si
 use Rattle.definition.specs.Sample as sample
 use Rattle.definition.specs.Rules.{rule_r4, accepted_def}
 use Rattle.definition_laws.proofs.Every.{length_shifted}
-use Rattle.definition_laws.proofs.Parts.{is_true}
 use Rattle.definition_laws.proofs.Accept.{Accepted, accepted_parts, shape}
 use Rattle.plain.specs.declared.counts.Taps.{Taps}
 use Rattle.plain.specs.Taps.{TapsOf, Beside}

@@ -7,13 +7,13 @@ use native.Mathlib.Omega.{arith}
 use lib.ListN.{length}
 use lib.Dec.{T}
 use lib.Ieee.{Float}
+use lib.Ieee.Bits.{is_true}
 use Rattle.types.specs.declared.EqualizeState.{EqualizeState}
 use Rattle.definition.specs.Slices.{samples_of}
 use Rattle.definition.specs.Packed.{equalizer, Ran}
 use Rattle.definition.specs.Packed as packed
 use Rattle.definition.specs.Rules.{rule_r4, TapCounts as Taps}
 use Rattle.definition.specs.Run.{run_def}
-use Rattle.definition_laws.proofs.Parts.{is_true}
 use Rattle.definition_laws.proofs.Accept.{Accepted, accepted_parts, shape}
 use Rattle.lanes.specs.Arrays.{Arrays, arrays}
 use Rattle.lanes.specs.Holds.{Holds, Limits, LaneCounts}

@@ -8,6 +8,7 @@ use lib.ListN.{length, take, drop, length-append, take-append-drop}
 use lib.Seq.{take_at, length-take-le}
 use lib.Dec.{T}
 use lib.Ieee.{Float}
+use lib.Ieee.Bits.{is_true}
 use Rattle.types.specs.declared.C32.{C32}
 use Rattle.definition.specs.Floats.{complex}
 use Rattle.definition.specs.Slices.{samples_of}
@@ -17,7 +18,6 @@ use Rattle.definition.specs.Rules.{accepted_def}
 use Rattle.definition.specs.Run.{Run, ahead, run_def, symbol_parts, mark_byte}
 use Rattle.definition_laws.proofs.Progress.{Progress, written-more}
 use Rattle.definition_laws.proofs.Accept.{accepted_parts, accepted_whole}
-use Rattle.definition_laws.proofs.Parts.{is_true}
 use Rattle.definition_laws.proofs.Kept.{run_accepted}
 use Rattle.definition_laws.proofs.Runs.{run_append, run_outs, symbols_length, marks_length, samples_length}
 

@@ -10,6 +10,7 @@ use lib.ListN.{set}
 use lib.Dec.{T, eqb, ltb}
 use lib.Seq.{get_or-set_other}
 use lib.Ieee.{Float, nan}
+use lib.Ieee.Bits.{is_true}
 use Rattle.types.specs.declared.C32.{C32}
 use Rattle.types.specs.declared.EqMode.{EqMode}
 use Rattle.types.specs.declared.EqMode.TheVariants.{Cma, Decision}
@@ -24,7 +25,6 @@ use Rattle.definition.specs.Sample as sample
 use Rattle.definition.specs.Sample.{Did, Out, mu_of, step_size, update_of, adapted, tracked, hear, heard_as, step1, step2, step3, never_switch, with_mode, advance_in, advance, step8, sample_def}
 use Rattle.definition.specs.Rules.{rule_r4}
 use Rattle.definition_laws.proofs.Exits.{stage-blank, stage-spilled, stage-heard}
-use Rattle.definition_laws.proofs.Parts.{is_true}
 use Rattle.definition_laws.proofs.Accept.{accepted_parts}
 use Rattle.definition_laws.proofs.Kept.{advance_r4}
 use Rattle.lanes.specs.Arrays.{Arrays, arrays}

@@ -1,7 +1,7 @@
 -- The table's rules, each proved at every entry by one test over the whole table. Assumes nothing.
 use mathlib.Core.Path.{◌≡◌, refl, ◌∙◌, ap, subst, sym}
 use mathlib.Core.Logic.{inl, inr}
-use mathlib.Core.Bool.{Bool, true, false, not, ◌&&◌}
+use mathlib.Core.Bool.{Bool, false, not, ◌&&◌}
 use mathlib.Core.List.{List, [], ◌∷◌, ◌++◌, map, reverse}
 use Prim.Native.Nat.{ℕ, zero, suc, ◌+◌, ◌-◌, ◌*◌, ◌%◌, ◌^◌, ◌<◌, ◌≤◌, min}
 use native.Mathlib.Nat.{mod-eq_of_lt, add_comm, le_of_suc-le-suc, not-suc-le-zero}
@@ -11,6 +11,7 @@ use lib.ListN.{length, get_or, take, drop, length-take, length-drop, length-reve
 use lib.Seq.{get_or-drop, get_or-take, get_or-append-add}
 use lib.Ieee.{Float, nan, inf, fin, binary32, of_bits, of_fields, nan_bits, odd, up, down, lt, neg}
 use lib.Ieee.Fits.{and_l, and_r}
+use lib.Ieee.Bits.{is_true}
 use lib.Ieee.Exact.{HasValue}
 use lib.Count.{count_trailing_zeros}
 use Rattle.laws.specs.Bound.{AtMost, Within, le_or_lt}
@@ -225,9 +226,6 @@ at_three_quarters : cos_at 3072 ≡ of_bits binary32 0
 unfolding cos_at cos_bits
 at_three_quarters = refl
 
-is_true : (b : Bool) → T b → b ≡ true
-is_true true t = refl
-is_true false t = absurd t
 
 pub table_rules : TableRules
 table_rules = record {
