@@ -117,8 +117,8 @@ EqReply eq_set_mu_dd(EqRecord record, float mu);
 /* The tracker's frequency: held to 0.125, below 1e-30 is 0, a NaN is 0. Refusal 8 for an unknown constellation or mode. */
 EqReply eq_set_frequency(EqRecord record, float freq);
 
-/* A block: a symbol and a mark for each sample. Quick path without feedback taps, joint path with them. A block may be empty, and the cut of a stream
- * into blocks does not matter. Refusals 1, 8, 9 and 10. */
+/* A block: a symbol and a mark for each sample. Quick path without feedback taps, joint path with them, sample by sample where a block is short: the
+ * answer is the same. A block may be empty, and the cut of a stream into blocks does not matter. Refusals 1, 8, 9 and 10. */
 EqReply eq_equalize(EqRecord record, float *weights, size_t weights_count, float *window, size_t window_count,
                     const float *input, size_t input_count, float *output, size_t output_count, uint8_t *marks, size_t marks_count);
 

@@ -147,7 +147,7 @@ impl C32 {
 }
 
 impl EqParams {
-    // The cma_symbols of a mode that never switches.
+    // The cma_symbols of a mode that never switches: by the specification the count and its absence are one number.
     pub const NEVER_SWITCH: u32 = u32::MAX;
 }
 
@@ -202,6 +202,8 @@ impl EqualizeState {
             freq: 0.0,
         }
     }
+
+    // The readers are the Rust's, whether this library calls one or not.
 
     pub fn mode(self) -> EqMode
         ensures { result ≡ self.mode }

@@ -59,7 +59,7 @@ impl Mark {
 
     pub const SPILLED: u8 = 2;
 
-    // The mark with the number n; the last for a number of none.
+    // The mark with the number n; the last for a number of none, as in the two below. For those who read marks: no call here does.
     pub fn of(n: u8) -> Mark
         ensures { result ≡ mark_of n }
     {
