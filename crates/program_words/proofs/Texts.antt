@@ -1,5 +1,5 @@
 -- What a byte divides a list into, and words in it, by the library's words for a `split` and a `position`. Assumes nothing.
-use Rattle.std.proofs.Common.{◌≡◌, ℕ, zero, suc, ◌+◌, ◌<◌, ◌≤◌, ◌⊎◌, inl, inr, Bool, true, false, cond, eqb, ltb, List, [], ◌∷◌, length, get_or, take, drop, drop_of_length-le, Some, None, unwrap_or, refl, ap, ◌∙◌, sym, arith}
+use Rattle.std.proofs.Common.{◌≡◌, ℕ, zero, suc, ◌+◌, ◌<◌, ◌≤◌, ◌⊎◌, inl, inr, Bool, true, false, cond, eqb, ltb, List, [], ◌∷◌, length, take, drop, drop_of_length-le, Some, None, unwrap_or, refl, ap, ◌∙◌, sym, arith}
 use Rattle.std.specs.List.{position, position_or_len, position_from, slice_split, onto_first, count_by}
 use Rattle.std.specs.Cmp.Lexicographic.{pointwise}
 use Rattle.std.proofs.lemmas.List.Recursion.{is_position_or_len}

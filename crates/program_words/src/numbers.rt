@@ -67,12 +67,21 @@ pub fn whole_of(t: &[u8], most: u64) -> Option<u64>
     Some(d.value)
 }
 
-// Whether a minus stands in front, and what stands behind a sign.
-fn unsigned(t: &[u8]) -> (bool, &[u8]) {
-    match t {
-        [b'-', rest @ ..] => (true, rest),
-        [b'+', rest @ ..] => (false, rest),
-        _ => (false, t),
+// The sign of a number: a plus where none is written.
+#[derive(Clone, Copy)]
+enum Sign {
+    Plus,
+    Minus,
+}
+
+impl Sign {
+    // The sign that a text starts with, and what stands behind it.
+    fn of(t: &[u8]) -> (Sign, &[u8]) {
+        match t {
+            [b'-', rest @ ..] => (Sign::Minus, rest),
+            [b'+', rest @ ..] => (Sign::Plus, rest),
+            _ => (Sign::Plus, t),
+        }
     }
 }
 
@@ -81,13 +90,16 @@ fn exponent_of(t: &[u8]) -> Option<i64> {
     let [b'e' | b'E', rest @ ..] = t else {
         return t.is_empty().then_some(0);
     };
-    let (minus, rest) = unsigned(rest);
+    let (sign, rest) = Sign::of(rest);
     let d = digits_of(rest, 0);
     if d.count == 0 || !d.rest.is_empty() {
         return None;
     }
     let e = i64::try_from(d.value).ok()?;
-    Some(if minus { -e } else { e })
+    Some(match sign {
+        Sign::Plus => e,
+        Sign::Minus => -e,
+    })
 }
 
 // m * 10^power.
@@ -99,7 +111,7 @@ fn scaled(m: u64, power: i64) -> Option<f64> {
 }
 
 pub fn real_of(t: &[u8]) -> Option<f64> {
-    let (minus, t) = unsigned(t);
+    let (sign, t) = Sign::of(t);
     let front = digits_of(t, 0);
     let (places, all) = match front.rest {
         [b'.', rest @ ..] => {
@@ -113,5 +125,8 @@ pub fn real_of(t: &[u8]) -> Option<f64> {
     }
     let power = exponent_of(all.rest)?.saturating_sub(i64::try_from(places).ok()?);
     let v = scaled(all.value, power)?;
-    Some(if minus { -v } else { v })
+    Some(match sign {
+        Sign::Plus => v,
+        Sign::Minus => -v,
+    })
 }
