@@ -1,105 +1,23 @@
--- A text laid on a page byte by byte. Assumes nothing.
-use Rattle.std.proofs.Common.{◌≡◌, ℕ, zero, suc, ◌+◌, ◌<◌, ◌≤◌, max, min, Bool, true, false, ltb, List, [], ◌∷◌, ◌++◌, take, length, get_or, drop, set, sym, refl, ap, ◌∙◌, add-one, arith, drop_of_length-le, drop-cons, ltb-false, ltb-true}
-use Rattle.program_text.specs.Pages.{laid, reached, LaidAs, written}
+-- A text copied behind what stands on a page is written there. Assumes nothing.
+use Rattle.std.proofs.Common.{◌≡◌, ℕ, ◌+◌, ◌-◌, ◌≤◌, min, List, ◌++◌, length, take, sym, ap, ◌∙◌, arith, length-take-le}
+use Rattle.std.proofs.lemmas.List.{take_min}
+use Rattle.std.proofs.lemmas.Slice.{take-put_mid}
+use borrow.Rule.Slice.PartMut.{put_mid}
+use lib.Seq.{take-append-add}
+use Rattle.program_text.specs.Pages.{written}
 
--- the page keeps its length
-pub laid_length : (p : List ℕ) (at : ℕ) (t : List ℕ) → length (laid p at t) ≡ length p
-unfolding laid
-laid_length [] at t = refl
-laid_length (a ∷ p) (suc at) t = ap suc (laid_length p at t)
-laid_length (a ∷ p) zero [] = refl
-laid_length (a ∷ p) zero (b ∷ t) = ap suc (laid_length p zero t)
-
--- nothing laid
-pub laid_none : (p : List ℕ) (at : ℕ) → laid p at [] ≡ p
-unfolding laid
-laid_none [] at = refl
-laid_none (a ∷ p) zero = refl
-laid_none (a ∷ p) (suc at) = rw (laid_none p at)
-
--- laid beyond the end
-pub laid_beyond : (p : List ℕ) (at : ℕ) (t : List ℕ) → length p ≤ at → laid p at t ≡ p
-unfolding laid
-laid_beyond [] at t h = refl
-laid_beyond (a ∷ p) zero t h = absurd (omega arith)
-laid_beyond (a ∷ p) (suc at) t h = rw (laid_beyond p at t (omega arith))
-
--- the first byte is stored, the rest laid behind it
-pub laid_set : (p : List ℕ) (at b : ℕ) (t : List ℕ) → at < length p → laid p at (b ∷ t) ≡ laid (set p at b) (suc at) t
-unfolding laid
-laid_set [] at b t h = absurd (omega arith)
-laid_set (a ∷ p) zero b t h = refl
-laid_set (a ∷ p) (suc at) b t h = rw (laid_set p at b t (omega arith))
-
--- one byte stored
-pub stored : (p : List ℕ) (at b : ℕ) → at < length p → set p at b ≡ laid p at (b ∷ [])
-stored p at b h = sym (laid_set p at b [] h ∙ laid_none (set p at b) (suc at))
-
-pub reached_in : (p : List ℕ) (at b : ℕ) → at < length p → at + 1 ≡ reached p at (b ∷ [])
-unfolding reached
-reached_in p at b h = omega arith
-
-pub reached_out : (p : List ℕ) (at : ℕ) (t : List ℕ) → length p ≤ at → at ≡ reached p at t
-unfolding reached
-reached_out p at t h = omega arith
-
-pub reached_none : (p : List ℕ) (at : ℕ) → at ≡ reached p at []
-unfolding reached
-reached_none p at = omega arith
-
--- a text laid is its first byte laid, and the rest behind that
-module _ (p : List ℕ) (at b : ℕ) (t : List ℕ) where
-  more_by : (c : Bool) → ltb at (length p) ≡ c → laid p at (b ∷ t) ≡ laid (laid p at (b ∷ [])) (reached p at (b ∷ [])) t
-  more_by true e =
-      let h : at < length p = ltb-true at (length p) e in
-      laid_set p at b t h ∙ rw (← stored p at b h, ← reached_in p at b h, add-one)
-  more_by false e =
-      let h : length p ≤ at = ltb-false at (length p) e in
-      rw (laid_beyond p at (b ∷ t) h, laid_beyond p at (b ∷ []) h, ← reached_out p at (b ∷ []) h, laid_beyond p at t h)
-
-  laid_more : laid p at (b ∷ t) ≡ laid (laid p at (b ∷ [])) (reached p at (b ∷ [])) t
-  laid_more = more_by (ltb at (length p)) refl
-
-  reached-more : reached p at (b ∷ t) ≡ reached (laid p at (b ∷ [])) (reached p at (b ∷ [])) t
-  unfolding reached
-  reached-more = rw laid_length (omega arith)
-
--- one byte of a text more
-module _ (p : List ℕ) (at : ℕ) (t : List ℕ) (i : ℕ) (h : i < length t) (p' : List ℕ) (at' : ℕ) where
-  pub next-laid : p' ≡ laid p at (get_or t i 0 ∷ []) → at' ≡ reached p at (get_or t i 0 ∷ []) → laid p at (drop i t) ≡ laid p' at' (drop (i + 1) t)
-  next-laid e f = rw (e, f, drop-cons t i 0 h, add-one) (laid_more p at (get_or t i 0) (drop (suc i) t))
-
-  pub next-reached : p' ≡ laid p at (get_or t i 0 ∷ []) → at' ≡ reached p at (get_or t i 0 ∷ [])
-      → reached p at (drop i t) ≡ reached p' at' (drop (i + 1) t)
-  next-reached e f = rw (e, f, drop-cons t i 0 h, add-one) (reached-more p at (get_or t i 0) (drop (suc i) t))
-
--- the whole text
-module _ (q p t : List ℕ) (i start at : ℕ) where
-  pub laid_end : laid q start t ≡ laid p at (drop i t) → length t ≤ i → p ≡ laid q start t
-  laid_end e h = sym (e ∙ rw (drop_of_length-le t h) (laid_none p at))
-
-  pub reached-end : reached q start t ≡ reached p at (drop i t) → length t ≤ i → at ≡ reached q start t
-  reached-end e h = sym (e ∙ rw (drop_of_length-le t h) (sym (reached_none p at)))
-
--- what stands on the page then, from its start
-page_by : (p : List ℕ) (at : ℕ) (t : List ℕ) (n : ℕ) → at ≤ length p → n ≡ max at (min (at + length t) (length p)) → take n (laid p at t) ≡ take (length p) (take at p ++ t)
-unfolding laid
-page_by [] zero t zero h e = refl
-page_by [] zero t (suc n) h e = absurd (omega arith)
-page_by [] (suc at) t n h e = absurd (omega arith)
-page_by (a ∷ p) (suc at) t zero h e = absurd (omega arith)
-page_by (a ∷ p) (suc at) t (suc n) h e = ap (λ l. a ∷ l) (page_by p at t n (omega arith) (omega arith))
-page_by (a ∷ p) zero [] zero h e = refl
-page_by (a ∷ p) zero [] (suc n) h e = absurd (omega arith)
-page_by (a ∷ p) zero (b ∷ t) zero h e = absurd (omega arith)
-page_by (a ∷ p) zero (b ∷ t) (suc n) h e = ap (λ l. b ∷ l) (page_by p zero t n (omega arith) (omega arith))
-
--- a text laid behind what is used is written there
-module _ (N : ℕ) (p : List ℕ) (at : ℕ) (t : List ℕ) (q : List ℕ) (n : ℕ) (k : length p ≡ N) (h : at ≤ N) (w : LaidAs p at t q n) where
-  pub words_are : (s : List ℕ) → take at p ≡ s → take n q ≡ written N s t
-  unfolding written reached
-  words_are s v = rw (w.0) (page_by p at t n (omega arith) w.1 ∙ rw (k, v))
-
-  pub used_most : n ≤ N
-  unfolding reached
-  used_most = omega (arith, w.1)
+-- ws is what is copied to the k bytes from `at` on
+module _ (N : ℕ) (p t ws s : List ℕ) (at n k : ℕ) where
+  pub copied_is : length p ≡ N → at ≤ N → n ≡ min (length t) (N - at) → ws ≡ take n t → take at p ≡ s → take (at + n) (put_mid at k p ws) ≡ written N s t
+  unfolding written
+  copied_is l h m w v =
+      let room = N - at in
+      let a : length (take at p) ≡ at = length-take-le at p (omega arith) in
+      let b : length ws ≡ n = ap length w ∙ length-take-le n t (omega arith) in
+      let c : min room (length t) ≡ n = omega arith in
+      let d : N ≡ length (take at p) + room = omega arith in
+      let back : ws ≡ take room t = w ∙ ap (λ i. take i t) (sym c) ∙ take_min room t in
+      take-put_mid at k p ws (at + n) (omega arith) (omega arith)
+      ∙ ap (λ x. take at p ++ x) back
+      ∙ sym (ap (λ i. take i (take at p ++ t)) d ∙ take-append-add (take at p) t room)
+      ∙ ap (λ x. take N (x ++ t)) v

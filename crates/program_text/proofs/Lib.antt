@@ -1,4 +1,4 @@
--- Tables: the rows, computed. Laying: text on a page. Entries: the text of a number in a list. Numerals: a number's digits.
+-- Tables: the rows, computed. Laying: a text copied onto a page. Entries: the text of a number in a list. Numerals: a number's digits.
 pub mod Tables
 pub mod Laying
 pub mod Entries

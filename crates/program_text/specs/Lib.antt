@@ -1,3 +1,3 @@
--- Text on its way out. Pages: text laid on a page, a number as text. Rows: known values.
+-- Text on its way out. Pages: what is written on a page, a number as text. Rows: known values.
 pub mod Pages
 pub mod Rows

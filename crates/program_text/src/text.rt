@@ -1,10 +1,9 @@
 // Text on its way out: a page, from its start on. What finds no room is left out.
-ghost use Rattle.std.specs.Prelude.{◌≡◌, ℕ, ◌-◌, ◌≤◌, List, [], ◌∷◌, length, take};
-ghost use Rattle.program_text.specs.Pages.{LaidAs, written, numeral, entry_of};
+ghost use Rattle.std.specs.Prelude.{◌≡◌, ℕ, ◌-◌, ◌≤◌, List, [], length, take};
+ghost use Rattle.program_text.specs.Pages.{written, numeral, entry_of};
 
 use std::fmt;
 use std::fmt::Write;
-use std::io::{Error, ErrorKind, Result};
 use std::marker::Model;
 
 // A page of N bytes, and how many of them are used.
@@ -21,27 +20,6 @@ impl<const N: usize> Model for Page<N> {
     ghost view = { λ p. take p.used p.bytes };
 
     ghost invariant = { λ p. p.used ≤ N };
-}
-
-fn byte(p: &mut [u8], at: usize, b: u8) -> usize
-    ensures { LaidAs p.old at (b ∷ []) p.new result }
-{
-    if at < p.len() {
-        p[at] = b;
-        return at + 1;
-    }
-    at
-}
-
-// A text from a place on. Answers the place behind it. Byte by byte: a byte that finds no room is left out, and the place counts those that found it.
-fn lay(p: &mut [u8], start: usize, t: &[u8]) -> usize
-    ensures { LaidAs p.old start t.now p.new result }
-{
-    let mut at = start;
-    for b in t {
-        at = byte(p, at, *b);
-    }
-    at
 }
 
 impl<const N: usize> Page<N> {
@@ -75,10 +53,15 @@ impl<const N: usize> Page<N> {
         &self.bytes[..self.used]
     }
 
+    // Writes a text behind what stands on the page, as far as there is room.
+    #[tactic(auto, using(crate::proofs::Laying::copied_is))]
     pub fn words(&mut self, t: &[u8])
         ensures { self.new ≡ written N self.old t.now }
     {
-        self.used = lay(&mut self.bytes, self.used, t);
+        let n = t.len().min(N - self.used);
+        let all = &mut self.bytes[..];
+        all[self.used..self.used + n].copy_from_slice(&t[..n]);
+        self.used += n;
     }
 
     // The text of a number in a list of texts with a line end behind each, counted from 0.
@@ -160,13 +143,5 @@ fn nine_digits(x: f64) -> Scaled {
     Scaled {
         digits: std::num::saturating_f64_to_u64(v + 0.5),
         exponent,
-    }
-}
-
-// Writes the first `used` bytes of a page.
-pub fn send<W: std::io::Write>(to: &mut W, p: &[u8], used: usize) -> Result<()> {
-    match p.get(..used) {
-        Some(t) => to.write_all(t),
-        None => Err(Error::from(ErrorKind::InvalidInput)),
     }
 }
