@@ -10,6 +10,7 @@ ghost use Rattle.types.specs.Bits.{f32 as f32Of, f64 as f64Of};
 ghost use Rattle.types.specs.Start.{start_mode, start_state};
 
 pub use numbers::{Lengths, UnknownNumber};
+pub use words::UnknownWord;
 
 // A complex sample: two f32, real part first.
 #[repr(C)]

@@ -1,5 +1,8 @@
-// Refusals and unknown numbers in words.
-use crate::{Error, UnknownNumber};
+// Refusals, unknown numbers and modes in words, and the constellation of a word.
+ghost use Rattle.std.specs.Prelude.{◌≡◌, Some};
+ghost use Rattle.types.specs.Words.{mode_word, constellation_with};
+
+use crate::{EqConstellation, EqMode, Error, UnknownNumber};
 use std::fmt;
 
 impl fmt::Display for Error {
@@ -32,3 +35,36 @@ impl fmt::Display for UnknownNumber {
 }
 
 impl std::error::Error for UnknownNumber {}
+
+impl fmt::Display for EqMode {
+    ghost output = { λ m. Some (mode_word m) };
+
+    fn fmt<W: fmt::Write>(&self, f: &mut fmt::Formatter<W>) -> fmt::Result {
+        f.write_str(match self {
+            EqMode::Cma => "cma",
+            EqMode::Decision => "decision",
+        })
+    }
+}
+
+// A word that no constellation has.
+#[derive(Clone, Copy, Debug, PartialEq, Eq)]
+pub struct UnknownWord;
+
+impl TryFrom<&[u8]> for EqConstellation {
+    type Error = UnknownWord;
+
+    #[tactic(auto, using(crate::proofs::Worded::no_word))]
+    fn try_from(word: &[u8]) -> Result<EqConstellation, UnknownWord>
+        ensures { result ≡ constellation_with word.now }
+    {
+        match word {
+            b"bpsk" => Ok(EqConstellation::Bpsk),
+            b"qpsk" => Ok(EqConstellation::Qpsk),
+            b"8psk" => Ok(EqConstellation::Psk8),
+            b"16qam" => Ok(EqConstellation::Qam16),
+            b"64qam" => Ok(EqConstellation::Qam64),
+            _ => Err(UnknownWord),
+        }
+    }
+}
