@@ -6,14 +6,10 @@ use crate::messages::Part::{Reason, Words};
 use crate::messages::{Part, Program, Told};
 use program_look::{FileId, Kind, Seen};
 use std::fs::{File, OpenOptions};
-use std::io::{Error, Read, Seek, Stdin, Stdout, Write};
+use std::io::{Error, ErrorKind, Read, Seek, Stdin, Stdout, Write};
 use std::{fs, io};
 
-// The system's numbers of a few errors: a message goes by the number, since the library's kinds tell fewer apart.
-const EEXIST: i32 = 17;
-
-const ENAMETOOLONG: i32 = 36;
-
+// The system's number of a name that is no text: the library has no kind for this error, so that its words go by the number.
 const EILSEQ: i32 = 84;
 
 // An input: standard input, or a file that is open.
@@ -134,7 +130,7 @@ fn named(bytes: &[u8]) -> io::Result<&str> {
 fn part_name(rt: &HostRuntime, v: Value) -> io::Result<Text> {
     let mut name = arguments::text_of(rt, v);
     if name.room() < 6 {
-        return Err(Error::from_raw_os_error(ENAMETOOLONG));
+        return Err(Error::from(ErrorKind::InvalidFilename));
     }
     name.words(b".part");
     Ok(name)
@@ -241,7 +237,7 @@ impl Program<'_> {
 
     // Why a `.part` was not made.
     fn not_made(self, v: Value, input: Seen, e: Error) -> Told {
-        if e.raw_os_error() != Some(EEXIST) {
+        if e.kind() != ErrorKind::AlreadyExists {
             return self.tell(&[
                 Words(b"cannot make "),
                 Part::Text(v),

@@ -2,7 +2,7 @@
 use crate::arguments;
 use crate::arguments::Value;
 use crate::text::Page;
-use std::io::{Error, Write};
+use std::io::{Error, ErrorKind, Write};
 
 // A program that runs: its runtime and its name.
 #[derive(Clone, Copy)]
@@ -48,32 +48,39 @@ impl Program<'_> {
     }
 }
 
-// An error of the system in words, of those that a file meets, by the system's number of it.
+// An error in words, of those that a file meets, by its kind.
 fn reason(e: Error) -> &'static [u8] {
+    match e.kind() {
+        ErrorKind::NotFound => b"there is no such file or folder",
+        ErrorKind::Interrupted => b"a signal interrupted it",
+        ErrorKind::WouldBlock => b"it would have to wait",
+        ErrorKind::AlreadyExists => b"it is there already",
+        ErrorKind::CrossesDevices => b"the two names are on different file systems",
+        ErrorKind::NotADirectory => b"a part of the name is no folder",
+        ErrorKind::IsADirectory => b"it is a folder",
+        ErrorKind::InvalidInput => b"the system does not take it",
+        ErrorKind::ExecutableFileBusy => b"a program runs from it",
+        ErrorKind::FileTooLarge => b"the file would be too large",
+        ErrorKind::StorageFull => b"no space is left on the device",
+        ErrorKind::ReadOnlyFilesystem => b"the file system is read-only",
+        ErrorKind::BrokenPipe => b"nobody reads the pipe",
+        ErrorKind::InvalidFilename => b"the name is too long",
+        ErrorKind::FilesystemLoop => b"too many links lead on",
+        ErrorKind::QuotaExceeded => b"the quota is used up",
+        _ => numbered_reason(e),
+    }
+}
+
+// By the system's number: these have no kind, or 1 and 13 have the same.
+fn numbered_reason(e: Error) -> &'static [u8] {
     match e.raw_os_error() {
         Some(1) => b"it is not permitted",
-        Some(2) => b"there is no such file or folder",
-        Some(4) => b"a signal interrupted it",
         Some(5) => b"the device failed",
         Some(6) => b"there is no such device",
         Some(9) => b"it is not open",
-        Some(11) => b"it would have to wait",
         Some(13) => b"permission is denied",
-        Some(17) => b"it is there already",
-        Some(18) => b"the two names are on different file systems",
-        Some(20) => b"a part of the name is no folder",
-        Some(21) => b"it is a folder",
-        Some(22) => b"the system does not take it",
         Some(23 | 24) => b"too many files are open",
-        Some(26) => b"a program runs from it",
-        Some(27) => b"the file would be too large",
-        Some(28) => b"no space is left on the device",
-        Some(30) => b"the file system is read-only",
-        Some(32) => b"nobody reads the pipe",
-        Some(36) => b"the name is too long",
-        Some(40) => b"too many links lead on",
         Some(84) => b"the name is no text in UTF-8",
-        Some(122) => b"the quota is used up",
         _ => b"for a reason that has no words here",
     }
 }
