@@ -48,13 +48,9 @@ pub enum Fault {
 
 // How many arguments there are, the program's name among them.
 pub fn count(env: &impl Env) -> usize {
-    let mut start = [0u8; 1];
-    for i in 0..usize::MAX {
-        if let Err(FillError::NotPresent) = env.arg(i, &mut start) {
-            return i;
-        }
-    }
-    usize::MAX
+    (0..usize::MAX)
+        .find(|i| matches!(env.arg(*i, &mut [0]), Err(FillError::NotPresent)))
+        .unwrap_or(usize::MAX)
 }
 
 // A value's text, where all of it has room.
@@ -68,8 +64,5 @@ pub fn whole_text_of(env: &impl Env, v: Value) -> Result<Text, FillError> {
 
 // A value's text; empty where not all of it has room.
 pub fn text_of(env: &impl Env, v: Value) -> Text {
-    match whole_text_of(env, v) {
-        Ok(text) => text,
-        Err(_) => Page::new(),
-    }
+    whole_text_of(env, v).unwrap_or_else(|_| Page::new())
 }

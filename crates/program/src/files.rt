@@ -175,10 +175,7 @@ fn looked(rt: &HostRuntime, v: Value) -> Seen {
 
 // Which file a value and `.part` name.
 fn looked_part(rt: &HostRuntime, v: Value) -> Seen {
-    match part_name(rt, v) {
-        Ok(name) => program_look::look(rt, name.bytes()),
-        Err(_) => Seen::Missing,
-    }
+    part_name(rt, v).map_or(Seen::Missing, |name| program_look::look(rt, name.bytes()))
 }
 
 fn is_plain(seen: Seen) -> bool {
@@ -210,16 +207,15 @@ impl Program<'_> {
         let Name::File(v) = name else {
             return Ok(OpenInput::Standard);
         };
-        match readable(self.rt, v) {
-            Ok(file) => Ok(OpenInput::Named(file)),
-            Err(e) => Err(self.tell(&[
+        readable(self.rt, v).map(OpenInput::Named).map_err(|e| {
+            self.tell(&[
                 Words(b"cannot read "),
                 Part::Text(v),
                 Words(b": "),
                 Reason(e),
                 Words(b"; nothing was written"),
-            ])),
-        }
+            ])
+        })
     }
 
     // A named output is a file that it can replace, or none.
@@ -266,10 +262,9 @@ impl Program<'_> {
     // Makes the `.part` of a named output.
     fn made(self, v: Value, input: Seen) -> Result<Output, Told> {
         self.can_replace(v)?;
-        match created(self.rt, v) {
-            Ok(part) => Ok(Output::Named(part)),
-            Err(e) => Err(self.not_made(v, input, e)),
-        }
+        created(self.rt, v)
+            .map(Output::Named)
+            .map_err(|e| self.not_made(v, input, e))
     }
 
     // Standard output does not write to the input.
@@ -366,22 +361,21 @@ impl Program<'_> {
         let v = part.name;
         let synced = part.file.sync_all();
         drop(part);
-        if let Err(e) = synced {
-            return Err(self.tell(&[
+        synced.map_err(|e| {
+            self.tell(&[
                 Words(b"writing "),
                 Part::Text(v),
                 Words(b".part failed: "),
                 Reason(e),
-            ]));
-        }
-        if let Err(e) = renamed(self.rt, v) {
-            return Err(self.tell(&[
+            ])
+        })?;
+        renamed(self.rt, v).map_err(|e| {
+            self.tell(&[
                 Part::Text(v),
                 Words(b".part is whole, and cannot be given its name: "),
                 Reason(e),
-            ]));
-        }
-        Ok(())
+            ])
+        })
     }
 
     // Closes an output that is not whole, and says what is there.
