@@ -1,3 +1,2 @@
--- Tables: the rows, computed. Answers: one law for each exit of a call from bytes to bytes.
+-- Tables: the rows, computed.
 pub mod Tables
-pub mod Answers

@@ -8,30 +8,40 @@ ghost use Rattle.cf32_block.specs.Block.{bytes_answer, block_def};
 
 use types::{EqualizeState, Equalized};
 
-// By the plain path, or by the quick or the joint one. A test, and no function handed in: `block` is asked by a bool, so that one would be chosen by the same test.
-fn called(
-    plain: bool,
-    state: EqualizeState,
-    weights: &mut [f32],
-    window: &mut [f32],
-    input: &[f32],
-    output: &mut [f32],
-    marks: &mut [u8],
-) -> Equalized
-    ensures { answered result weights.new window.new output.new marks.new
-        ≡ equalize_def (equalizer state weights.old window.old) input.now output.old marks.old }
-{
-    if plain {
-        equalize::reference::equalize(state, weights, window, input, output, marks)
-    } else {
-        equalize::equalize(state, weights, window, input, output, marks)
+// By which path a call goes; the answer is the same.
+#[derive(Clone, Copy, Debug, PartialEq, Eq)]
+pub enum Path {
+    Plain,
+    // The quick or the joint one.
+    Fast,
+}
+
+impl Path {
+    fn equalize(
+        self,
+        state: EqualizeState,
+        weights: &mut [f32],
+        window: &mut [f32],
+        input: &[f32],
+        output: &mut [f32],
+        marks: &mut [u8],
+    ) -> Equalized
+        ensures { answered result weights.new window.new output.new marks.new
+            ≡ equalize_def (equalizer state weights.old window.old) input.now output.old marks.old }
+    {
+        match self {
+            Path::Plain => {
+                equalize::reference::equalize(state, weights, window, input, output, marks)
+            }
+            Path::Fast => equalize::equalize(state, weights, window, input, output, marks),
+        }
     }
 }
 
-// One call from bytes to bytes, by the plain path, or by the quick or the joint one; the answer is the same. x and y are room for the floats of the
-// input and of the output. A refusal leaves all but x as it was.
+// One call from bytes to bytes. x and y are room for the floats of the input and of the output. A refusal leaves all but x as it was.
+#[tactic(auto, unfolding(crate::specs::Block::block_def))]
 pub fn block(
-    plain: bool,
+    path: Path,
     state: EqualizeState,
     weights: &mut [f32],
     window: &mut [f32],
@@ -45,7 +55,7 @@ pub fn block(
         ≡ block_def (equalizer state weights.old window.old) input.now x.old y.old output.old marks.old }
 {
     cf32::floats(input, x);
-    let e = called(plain, state, weights, window, x, y, marks);
+    let e = path.equalize(state, weights, window, x, y, marks);
     if e.outcome.is_ok() {
         cf32::bytes(y, output);
     }
