@@ -9,9 +9,7 @@ ghost use Rattle.std.specs.Prelude.{◌≤◌};
 
 use crate::options::Options;
 use crate::outputs::Outputs;
-use equalizer_stream::Ways;
 use program::arguments::Name;
-use program::files::OpenInput;
 use program::messages::Part::Words;
 use program::messages::Program;
 use program::{Status, arguments};
@@ -58,57 +56,48 @@ fn each<F: Fn(usize, usize) -> Result<(), Status>>(
 }
 
 fn read(p: Program<'_>, at: usize, end: usize) -> Result<Options, Status> {
-    match options::read(p.rt, at, end) {
-        Ok(o) => Ok(o),
-        Err(f) => {
-            report::fault(p, f);
-            Err(Status::Usage)
-        }
-    }
+    options::read(p.rt, at, end).map_err(|f| {
+        report::fault(p, f);
+        Status::Usage
+    })
 }
 
 // A run that can begin. Help and the version always can.
 fn tried(p: Program<'_>, at: usize, end: usize) -> Result<(), Status> {
     let o = read(p, at, end)?;
-    if o.about.is_some() {
-        return Ok(());
+    if o.about.is_none() {
+        Equalizer::new(p, &o)?;
     }
-    is_ready(p, &o)?;
-    let mut weights = [0.0f32; 4096];
-    let mut window = [0.0f32; 4096];
-    let parts = parts_of(&o);
-    made(p, &o, &mut weights[..parts], &mut window[..parts])?;
     Ok(())
 }
 
 fn run(p: Program<'_>, at: usize, end: usize) -> Result<(), Status> {
     let o = read(p, at, end)?;
-    if let Some(about) = o.about {
-        return report::about(p, about);
+    match o.about {
+        Some(about) => report::about(p, about),
+        None => Equalizer::new(p, &o)?.serve(p, &o),
     }
-    is_ready(p, &o)?;
-    let mut weights = [0.0f32; 4096];
-    let mut window = [0.0f32; 4096];
-    let parts = parts_of(&o);
-    start(p, &o, &mut weights[..parts], &mut window[..parts])
 }
 
-fn usage(p: Program<'_>, words: &[u8]) -> Result<(), Status> {
+// Says in a line why a run is not served.
+fn ended(p: Program<'_>, status: Status, words: &[u8]) -> Result<(), Status> {
     p.tell(&[Words(words)]);
-    Err(Status::Usage)
+    Err(status)
 }
 
 // Samples are neither typed in nor shown on a terminal, and standard output is one output.
 fn is_ready(p: Program<'_>, o: &Options) -> Result<(), Status> {
     if o.input == Name::Standard && p.rt.stdin().is_terminal() {
-        return usage(
+        return ended(
             p,
+            Status::Usage,
             b"samples come from --in FILE or standard input; see --help",
         );
     }
-    if o.output == Name::Standard && !o.text && p.rt.stdout().is_terminal() {
-        return usage(
+    if o.output == Name::Standard && !o.ways.text && p.rt.stdout().is_terminal() {
+        return ended(
             p,
+            Status::Usage,
             b"symbols go to --out FILE or standard output, not to a terminal; see --help and --text",
         );
     }
@@ -119,8 +108,9 @@ fn is_ready(p: Program<'_>, o: &Options) -> Result<(), Status> {
         .count()
         > 1
     {
-        return usage(
+        return ended(
             p,
+            Status::Usage,
             b"two outputs cannot both be standard output; nothing was written",
         );
     }
@@ -131,82 +121,66 @@ fn is_ready(p: Program<'_>, o: &Options) -> Result<(), Status> {
 fn parts_of(o: &Options) -> usize
     ensures { result ≤ 4096 }
 {
-    2 * (o.taps.min(999) + o.feedback.min(999))
+    2 * (o.taps.min(999) + o.params.feedback_taps.min(999))
 }
 
-fn made(
-    p: Program<'_>,
-    o: &Options,
-    weights: &mut [f32],
-    window: &mut [f32],
-) -> Result<EqualizeState, Status> {
-    equalize_state::new(weights, window, o.params()).map_err(|e| {
-        report::refused(p, e);
-        Status::Usage
-    })
-}
-
-fn start(
-    p: Program<'_>,
-    o: &Options,
-    weights: &mut [f32],
-    window: &mut [f32],
-) -> Result<(), Status> {
-    let state = made(p, o, weights, window)?;
-    let state = equalize_state::set_frequency(state, o.frequency);
-    with_input(p, o, state, weights, window)
-}
-
-fn with_input(
-    p: Program<'_>,
-    o: &Options,
+// The equalizer of a run: its record, and room for weights and window, of which `parts` floats are used.
+#[derive(Drop)]
+struct Equalizer {
     state: EqualizeState,
-    weights: &mut [f32],
-    window: &mut [f32],
-) -> Result<(), Status> {
-    let Ok(input) = p.input(o.input) else {
-        return Err(Status::Failed);
-    };
-    match outputs::opened(p, o, &input) {
-        Ok(f) => with_files(p, o, input, f, state, weights, window),
-        Err(_) => Err(Status::Failed),
-    }
+    weights: [f32; 4096],
+    window: [f32; 4096],
+    parts: usize,
+    ghost within: { parts ≤ 4096 },
 }
 
-fn with_files(
-    p: Program<'_>,
-    o: &Options,
-    input: OpenInput,
-    f: Outputs,
-    state: EqualizeState,
-    weights: &mut [f32],
-    window: &mut [f32],
-) -> Result<(), Status> {
-    let ways = Ways {
-        plain: o.plain,
-        block: o.block,
-        text: o.text,
-    };
-    let done = equalizer_stream::all(
-        ways,
-        outputs::files_of(p.rt, &input, &f),
-        state,
-        weights,
-        window,
-    );
-    drop(input);
-    report::done(p, o, done);
-    if !done.is_whole() {
-        f.left(p);
-        return failed(p, b"FAILED: the input was not served whole");
+impl Equalizer {
+    fn new(p: Program<'_>, o: &Options) -> Result<Equalizer, Status> {
+        is_ready(p, o)?;
+        let mut weights = [0.0f32; 4096];
+        let mut window = [0.0f32; 4096];
+        let parts = parts_of(o);
+        let state = equalize_state::new(
+            &mut weights[..parts],
+            &mut window[..parts],
+            o.params,
+        ).map_err(|e| {
+            report::refused(p, e);
+            Status::Usage
+        })?;
+        Ok(Equalizer {
+            state: equalize_state::set_frequency(state, o.frequency),
+            weights,
+            window,
+            parts,
+        })
     }
-    if f.whole(p).is_err() {
-        return failed(p, b"FAILED: not every output has its name");
-    }
-    Ok(())
-}
 
-fn failed(p: Program<'_>, words: &[u8]) -> Result<(), Status> {
-    p.tell(&[Words(words)]);
-    Err(Status::Failed)
+    fn serve(self, p: Program<'_>, o: &Options) -> Result<(), Status> {
+        let Equalizer {
+            state,
+            mut weights,
+            mut window,
+            parts,
+        } = self;
+        let input = p.input(o.input).map_err(|_| Status::Failed)?;
+        let outputs = Outputs::open(p, o, &input).map_err(|_| Status::Failed)?;
+        let done = equalizer_stream::all(
+            o.ways,
+            outputs.files(p.rt, &input),
+            state,
+            &mut weights[..parts],
+            &mut window[..parts],
+        );
+        drop(input);
+        report::done(p, o, done);
+        if !done.is_whole() {
+            outputs.left(p);
+            return ended(p, Status::Failed, b"FAILED: the input was not served whole");
+        }
+        if outputs.whole(p).is_err() {
+            return ended(p, Status::Failed, b"FAILED: not every output has its name");
+        }
+        Ok(())
+    }
 }

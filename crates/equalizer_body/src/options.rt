@@ -1,6 +1,7 @@
 // The options of a run, as the arguments give them.
 ghost use Rattle.std.specs.Prelude.{◌<◌};
 
+use equalizer_stream::{Path, Ways};
 use program::arguments::{Fault, Name, Value};
 use program::{arguments, numbers};
 use std::env::Env;
@@ -15,17 +16,10 @@ pub(crate) enum About {
 
 #[derive(Clone, Copy)]
 pub(crate) struct Options {
-    constellation: EqConstellation,
+    pub(crate) params: EqParams,
     pub(crate) taps: usize,
-    pub(crate) feedback: usize,
-    mu_cma: f32,
-    mu_dd: f32,
-    cma_symbols: u32,
-    bandwidth: f64,
     pub(crate) frequency: f32,
-    pub(crate) plain: bool,
-    pub(crate) block: usize,
-    pub(crate) text: bool,
+    pub(crate) ways: Ways,
     pub(crate) about: Option<About>,
     pub(crate) input: Name,
     pub(crate) output: Name,
@@ -137,8 +131,8 @@ fn taps_of(t: &[u8]) -> Option<usize> {
 // `never` is the count that is not reached.
 fn symbols_of(t: &[u8]) -> Option<u32> {
     match t {
-        b"never" => Some(0xffff_ffff),
-        _ => u32::try_from(numbers::whole_of(t, 0xffff_fffe)?).ok(),
+        b"never" => Some(EqParams::NEVER_SWITCH),
+        _ => u32::try_from(numbers::whole_of(t, u64::from(EqParams::NEVER_SWITCH) - 1)?).ok(),
     }
 }
 
@@ -149,22 +143,10 @@ fn block_of(t: &[u8]) -> Option<usize> {
     }
 }
 
-fn constellation_of(t: &[u8]) -> Option<EqConstellation> {
+fn path_of(t: &[u8]) -> Option<Path> {
     match t {
-        b"bpsk" => Some(EqConstellation::Bpsk),
-        b"qpsk" => Some(EqConstellation::Qpsk),
-        b"8psk" => Some(EqConstellation::Psk8),
-        b"16qam" => Some(EqConstellation::Qam16),
-        b"64qam" => Some(EqConstellation::Qam64),
-        _ => None,
-    }
-}
-
-// Whether the path is the plain one.
-fn plain_of(t: &[u8]) -> Option<bool> {
-    match t {
-        b"plain" => Some(true),
-        b"fast" => Some(false),
+        b"plain" => Some(Path::Plain),
+        b"fast" => Some(Path::Fast),
         _ => None,
     }
 }
@@ -172,19 +154,15 @@ fn plain_of(t: &[u8]) -> Option<bool> {
 // The Rust's settings, and 11 taps.
 impl Default for Options {
     fn default() -> Options {
-        let p = EqParams::default();
         Options {
-            constellation: p.constellation,
+            params: EqParams::default(),
             taps: 11,
-            feedback: p.feedback_taps,
-            mu_cma: p.mu_cma,
-            mu_dd: p.mu_dd,
-            cma_symbols: p.cma_symbols,
-            bandwidth: p.phase_bw,
             frequency: 0.0,
-            plain: false,
-            block: 4096,
-            text: false,
+            ways: Ways {
+                path: Path::Fast,
+                block: 4096,
+                text: false,
+            },
             about: None,
             input: Name::Standard,
             output: Name::Standard,
@@ -195,17 +173,6 @@ impl Default for Options {
 }
 
 impl Options {
-    pub(crate) fn params(&self) -> EqParams {
-        EqParams {
-            constellation: self.constellation,
-            feedback_taps: self.feedback,
-            mu_cma: self.mu_cma,
-            mu_dd: self.mu_dd,
-            cma_symbols: self.cma_symbols,
-            phase_bw: self.bandwidth,
-        }
-    }
-
     // Sets what an option does to the value v of text t, where it takes that.
     fn set(&mut self, setting: Setting, t: &[u8], v: Value) -> Option<()> {
         if t.is_empty() {
@@ -216,16 +183,18 @@ impl Options {
             Setting::Output => self.output = name_of(t, v),
             Setting::Marks => self.marks = Some(name_of(t, v)),
             Setting::Curve => self.curve = Some(name_of(t, v)),
-            Setting::MuCma => self.mu_cma = narrow_of(t)?,
-            Setting::MuDd => self.mu_dd = narrow_of(t)?,
-            Setting::Bandwidth => self.bandwidth = numbers::real_of(t)?,
+            Setting::MuCma => self.params.mu_cma = narrow_of(t)?,
+            Setting::MuDd => self.params.mu_dd = narrow_of(t)?,
+            Setting::Bandwidth => self.params.phase_bw = numbers::real_of(t)?,
             Setting::Frequency => self.frequency = narrow_of(t)?,
             Setting::Taps => self.taps = taps_of(t)?,
-            Setting::Feedback => self.feedback = taps_of(t)?,
-            Setting::CmaSymbols => self.cma_symbols = symbols_of(t)?,
-            Setting::Block => self.block = block_of(t)?,
-            Setting::Constellation => self.constellation = constellation_of(t)?,
-            Setting::Path => self.plain = plain_of(t)?,
+            Setting::Feedback => self.params.feedback_taps = taps_of(t)?,
+            Setting::CmaSymbols => self.params.cma_symbols = symbols_of(t)?,
+            Setting::Block => self.ways.block = block_of(t)?,
+            Setting::Constellation => {
+                self.params.constellation = EqConstellation::try_from(t).ok()?;
+            }
+            Setting::Path => self.ways.path = path_of(t)?,
         }
         Some(())
     }
@@ -233,7 +202,7 @@ impl Options {
     // An option that takes nothing. Help is told before the version.
     fn flag(&mut self, flag: Flag) {
         match flag {
-            Flag::Text => self.text = true,
+            Flag::Text => self.ways.text = true,
             Flag::About(About::Help) => self.about = Some(About::Help),
             Flag::About(About::Version) => self.about = self.about.or(Some(About::Version)),
         }
@@ -310,10 +279,5 @@ fn is_then(rt: &HostRuntime, at: usize) -> bool {
 
 // Where the arguments of a run end: at the next `--then`, or at the last.
 pub(crate) fn end_of(rt: &HostRuntime, start: usize, count: usize) -> usize {
-    for at in start..count {
-        if is_then(rt, at) {
-            return at;
-        }
-    }
-    count
+    (start..count).find(|at| is_then(rt, *at)).unwrap_or(count)
 }

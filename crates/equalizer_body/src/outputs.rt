@@ -1,7 +1,6 @@
 // The files of a run.
 use crate::options::Options;
 use equalizer_stream::Files;
-use program::arguments::Name;
 use program::files::{OpenInput, Output};
 use program::messages::{Program, Told};
 use program_look::Seen;
@@ -13,75 +12,64 @@ pub(crate) struct Outputs {
     curve: Output,
 }
 
-// Makes the marks or the curve, which do not replace the input.
-fn further(
-    p: Program<'_>,
-    name: Option<Name>,
-    input: Seen,
-    others: &[&Output],
-) -> Result<Output, Told> {
-    p.not_input(name, input)?;
-    p.output(name, input, others)
-}
-
-// Makes all outputs, or none.
-pub(crate) fn opened(p: Program<'_>, o: &Options, input: &OpenInput) -> Result<Outputs, Told> {
-    let seen = input.look(p.rt);
-    let symbols = p.output(Some(o.output), seen, &[])?;
-    let marks = match further(p, o.marks, seen, &[&symbols]) {
-        Ok(marks) => marks,
-        Err(told) => {
-            p.dropped(symbols);
-            return Err(told);
-        }
-    };
-    match further(p, o.curve, seen, &[&symbols, &marks]) {
-        Ok(curve) => Ok(Outputs {
-            symbols,
-            marks,
-            curve,
-        }),
-        Err(told) => {
-            p.dropped(symbols);
-            p.dropped(marks);
-            Err(told)
-        }
-    }
-}
-
-pub(crate) fn files_of<'a>(rt: &HostRuntime, input: &'a OpenInput, o: &'a Outputs) -> Files<'a> {
-    Files {
-        input: input.source(rt),
-        at_hand: input.is_at_hand(rt),
-        output: o.symbols.sink(rt),
-        marks: o.marks.sink(rt),
-        curve: o.curve.sink(rt),
-    }
-}
-
 impl Outputs {
-    // Ends the outputs of a run that served its whole input, each of them, whatever becomes of the others.
-    pub(crate) fn whole(self, p: Program<'_>) -> Result<(), Told> {
+    // Makes all outputs, or none.
+    pub(crate) fn open(p: Program<'_>, o: &Options, input: &OpenInput) -> Result<Outputs, Told> {
+        let mut outputs = Outputs {
+            symbols: Output::Nowhere,
+            marks: Output::Nowhere,
+            curve: Output::Nowhere,
+        };
+        match outputs.make(p, o, input.look(p.rt)) {
+            Ok(()) => Ok(outputs),
+            Err(told) => {
+                for output in outputs.into_array() {
+                    p.dropped(output);
+                }
+                Err(told)
+            }
+        }
+    }
+
+    // Makes one after the other. Marks and curve do not replace the input.
+    fn make(&mut self, p: Program<'_>, o: &Options, input: Seen) -> Result<(), Told> {
+        self.symbols = p.output(Some(o.output), input, &[])?;
+        p.not_input(o.marks, input)?;
+        self.marks = p.output(o.marks, input, &[&self.symbols])?;
+        p.not_input(o.curve, input)?;
+        self.curve = p.output(o.curve, input, &[&self.symbols, &self.marks])?;
+        Ok(())
+    }
+
+    pub(crate) fn files<'a>(&'a self, rt: &HostRuntime, input: &'a OpenInput) -> Files<'a> {
+        Files {
+            input: input.source(rt),
+            at_hand: input.is_at_hand(rt),
+            output: self.symbols.sink(rt),
+            marks: self.marks.sink(rt),
+            curve: self.curve.sink(rt),
+        }
+    }
+
+    fn into_array(self) -> [Output; 3] {
         let Outputs {
             symbols,
             marks,
             curve,
         } = self;
-        let a = p.whole(symbols);
-        let b = p.whole(marks);
-        let d = p.whole(curve);
-        a.and(b).and(d)
+        [symbols, marks, curve]
+    }
+
+    // Ends the outputs of a run that served its whole input, each of them, whatever becomes of the others.
+    pub(crate) fn whole(self, p: Program<'_>) -> Result<(), Told> {
+        let [symbols, marks, curve] = self.into_array().map(|output| p.whole(output));
+        symbols.and(marks).and(curve)
     }
 
     // Ends those of a run that did not.
     pub(crate) fn left(self, p: Program<'_>) {
-        let Outputs {
-            symbols,
-            marks,
-            curve,
-        } = self;
-        p.left(symbols);
-        p.left(marks);
-        p.left(curve);
+        for output in self.into_array() {
+            p.left(output);
+        }
     }
 }

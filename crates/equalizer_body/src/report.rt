@@ -8,17 +8,17 @@ use program::text::Page;
 use program::{Status, arguments};
 use std::env::Env;
 use std::fmt;
+use std::fmt::Write as _;
 use std::io::{Error, Write};
 use types::EqualizeState;
 
 // The first bytes of an argument that is too long.
 fn too_long(p: Program<'_>, at: usize) -> Told {
-    let mut argument = io::buffer();
-    let _ = p.rt.arg(at, &mut argument);
-    let start = &argument[..40];
+    let mut start = [0u8; 40];
+    let _ = p.rt.arg(at, &mut start);
     p.tell(&[
         Words(b"an argument is longer than 4096 bytes: "),
-        Words(start),
+        Words(&start),
         Words(b".."),
     ])
 }
@@ -62,14 +62,19 @@ pub(crate) fn fault(p: Program<'_>, f: Fault) -> Told {
     }
 }
 
+// What a value is in words.
+fn in_words<T: fmt::Display + Copy>(value: T) -> Page<256> {
+    let mut words = Page::new();
+    let _ = write!(words, "{value}");
+    words
+}
+
 pub(crate) fn refused(p: Program<'_>, e: types::Error) -> Told {
-    let mut why: Page<256> = Page::new();
-    let _ = fmt::Write::write_fmt(&mut why, format_args!("{e}"));
     p.tell(&[
         Words(b"refused, number "),
         Count(u64::from(u32::from(e))),
         Words(b": "),
-        Words(why.bytes()),
+        Words(in_words(e).bytes()),
     ])
 }
 
@@ -98,7 +103,7 @@ fn counts(p: Program<'_>, t: Tally) {
 fn record(p: Program<'_>, s: EqualizeState) {
     p.tell(&[
         Words(b"mode "),
-        Words(equalizer_stream::mode(s.mode)),
+        Words(in_words(s.mode).bytes()),
         Words(b", mean error "),
         Float(s.mse),
         Words(b", frequency "),

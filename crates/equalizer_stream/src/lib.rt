@@ -1,24 +1,48 @@
 // A stream of samples, of any length, by calls of at most 4,096. What the calls give for what was read at once is written at once.
 #![tactic(auto)]
 
-ghost use Rattle.std.specs.Prelude.{◌≡◌, ◌-◌, ◌*◌, ◌≤◌, length};
+ghost use Rattle.std.specs.Prelude.{◌≡◌, ◌-◌, ◌*◌, ◌<◌, ◌≤◌, length};
 ghost use Rattle.equalizer_stream.specs.Ends.{is_whole};
 
+pub use cf32_block::Path;
 use program::files::{Sink, Source};
 use program::text::Page;
+use std::fmt::Write as _;
 use std::io;
 use std::io::{Read, Write};
-use types::{EqMode, EqualizeState, Error, Mark};
+use types::{EqualizeState, Error, Mark};
 
 // The most samples that are read at once.
 const MOST: usize = 4096;
 
-// How a stream is served: by the plain path or the fast one, how many samples a call, as text or as bytes.
+// How a stream is served: by which path, how many samples a call, as text or as bytes.
 #[derive(Clone, Copy)]
 pub struct Ways {
-    pub plain: bool,
+    pub path: Path,
     pub block: usize,
     pub text: bool,
+}
+
+impl Ways {
+    // How many samples a call takes: as many as can be where none or more are asked for.
+    fn block(self) -> usize
+        ensures { (0 < result) × (result ≤ 4096) }
+    {
+        match self.block {
+            1..=MOST => self.block,
+            _ => MOST,
+        }
+    }
+
+    // The samples that are read at once: of an input at hand as many whole blocks as there is room for.
+    fn at_once(self, at_hand: bool) -> Span {
+        let block = self.block();
+        if at_hand {
+            Span::first(MOST - MOST % block)
+        } else {
+            Span::first(block)
+        }
+    }
 }
 
 // The files of a stream. Of an input at hand, as a file is, as much can be read at once as one likes; a pipe is served block by block.
@@ -154,22 +178,15 @@ fn turned(to: &mut Sink<'_>, p: &mut Page<8192>) -> io::Result<()> {
 }
 
 // The symbols as lines of text.
-fn lines(output: Sink<'_>, y: &[f32], marks: &[u8], count: usize) -> io::Result<()> {
+fn lines(output: Sink<'_>, y: &[f32], marks: &[u8]) -> io::Result<()> {
     let mut to = output;
     let mut p: Page<8192> = Page::new();
     let (symbols, _) = y.as_chunks::<2>();
-    for ([re, im], mark) in symbols.iter().zip(marks).take(count) {
+    for ([re, im], mark) in symbols.iter().zip(marks) {
         line(&mut p, *re, *im, *mark);
         turned(&mut to, &mut p)?;
     }
     to.write_all(p.bytes())
-}
-
-pub fn mode(m: EqMode) -> &'static [u8] {
-    match m {
-        EqMode::Cma => b"cma",
-        EqMode::Decision => b"decision",
-    }
 }
 
 // A point of the learning curve: the samples so far, the mean error and the mode.
@@ -177,8 +194,7 @@ fn point(p: &mut Page<128>, t: Tally, s: EqualizeState) {
     p.count(t.samples);
     p.words(b" ");
     spaced(p, s.mse);
-    p.words(mode(s.mode));
-    p.words(b"\n");
+    let _ = writeln!(p, "{}", s.mode);
 }
 
 // Writes a point, where a curve is wanted.
@@ -192,6 +208,31 @@ fn drawn(curve: Sink<'_>, t: Tally, s: EqualizeState) -> io::Result<()> {
     to.write_all(p.bytes())
 }
 
+// Samples of a room, from `at` to before `to`.
+#[derive(Clone, Copy)]
+struct Span {
+    at: usize,
+    to: usize,
+    ghost ordered: { at ≤ to },
+    ghost within: { to ≤ 4096 },
+}
+
+impl Span {
+    // The first n.
+    fn first(n: usize) -> Span
+        requires { n ≤ 4096 }
+        ensures { (result.at ≡ 0) × (result.to ≡ n) }
+    {
+        Span { at: 0, to: n }
+    }
+
+    fn len(self) -> usize
+        ensures { result ≡ self.to - self.at }
+    {
+        self.to - self.at
+    }
+}
+
 // The bytes and marks of at most 4,096 samples: as they were read, and what the calls gave.
 #[derive(Drop)]
 struct Room {
@@ -201,25 +242,24 @@ struct Room {
 }
 
 impl Room {
-    // One call on the samples from `at` to before `to`, with room for N floats.
+    // One call on some samples, with room for N floats.
     fn equalize<const N: usize>(
         &mut self,
-        plain: bool,
+        path: Path,
         state: EqualizeState,
         weights: &mut [f32],
         window: &mut [f32],
-        at: usize,
-        to: usize,
+        span: Span,
     ) -> Result<EqualizeState, Error>
-        requires samples { (at ≤ to) × (to ≤ 4096) }
-        requires floats { (2 * (to - at) ≤ N) × (N ≤ 8192) }
+        requires { (2 * (span.to - span.at) ≤ N) × (N ≤ 8192) }
     {
-        let n = 2 * (to - at);
+        let Span { at, to } = span;
+        let n = 2 * span.len();
         let mut x = [0.0f32; N];
         let mut y = [0.0f32; N];
         let Room { raw, out, marks } = self;
         let e = cf32_block::block(
-            plain,
+            path,
             state,
             weights,
             window,
@@ -233,31 +273,20 @@ impl Room {
         Ok(e.state)
     }
 
-    // Writes the symbols of n samples. n is at most 4,096 in each of these: one number and one line.
-    fn symbols(&self, output: Sink<'_>, is_text: bool, n: usize) -> io::Result<()>
-        requires { n ≤ 4096 }
-    {
-        if is_text {
-            let mut y = [0.0f32; 8192];
-            cf32::floats(&self.out, &mut y);
-            return lines(output, &y, &self.marks, n);
-        }
-        let mut to = output;
-        to.write_all(&self.out[..8 * n])
+    // The bytes of the symbols.
+    fn symbols(&self, span: Span) -> &[u8] {
+        &self.out[8 * span.at..8 * span.to]
     }
 
-    fn marks(&self, output: Sink<'_>, n: usize) -> io::Result<()>
-        requires { n ≤ 4096 }
-    {
-        let mut to = output;
-        to.write_all(&self.marks[..n])
+    fn marks(&self, span: Span) -> &[u8] {
+        &self.marks[span.at..span.to]
     }
 }
 
-// How many samples were served of those that were read, and what ended the calls.
+// The samples that were served of those that were read, and what ended the calls.
 #[derive(Clone, Copy)]
 struct Served {
-    count: usize,
+    span: Span,
     ending: Result<(), Ending>,
 }
 
@@ -272,19 +301,17 @@ struct Stream<'a> {
 }
 
 impl Stream<'_> {
-    // One call on the samples from `at` to before `to`, its marks counted and its point drawn. The room for 4,096 samples takes a while to clear.
-    fn call(&mut self, room: &mut Room, at: usize, to: usize) -> Result<(), Ending>
-        requires { (at ≤ to) × (to ≤ 4096) }
-    {
-        let plain = self.ways.plain;
+    // One call, its marks counted and its point drawn. The room for 4,096 samples takes a while to clear.
+    fn call(&mut self, room: &mut Room, span: Span) -> Result<(), Ending> {
+        let path = self.ways.path;
         let Progress { state, mut tally } = self.progress;
-        let called = if to - at <= 64 {
-            room.equalize::<128>(plain, state, self.weights, self.window, at, to)
+        let called = if span.len() <= 64 {
+            room.equalize::<128>(path, state, self.weights, self.window, span)
         } else {
-            room.equalize::<8192>(plain, state, self.weights, self.window, at, to)
+            room.equalize::<8192>(path, state, self.weights, self.window, span)
         };
         let state = called.map_err(Ending::Refused)?;
-        for mark in &room.marks[at..to] {
+        for mark in room.marks(span) {
             tally.add(*mark);
         }
         drawn(self.files.curve, tally, state).map_err(|e| Ending::Unwritten(Target::Curve, e))?;
@@ -292,51 +319,57 @@ impl Stream<'_> {
         Ok(())
     }
 
-    // Equalizes n samples that were read, by calls of a block.
-    fn calls(&mut self, room: &mut Room, n: usize) -> Served
-        requires { n ≤ 4096 }
-        ensures { result.count ≤ n }
-    {
-        let block = if self.ways.block == 0 {
-            MOST
-        } else {
-            self.ways.block
-        };
-        for at in (0..n).step_by(block) {
-            if let Err(e) = self.call(room, at, at.saturating_add(block).min(n)) {
+    // Equalizes the samples that were read, by calls of a block.
+    fn calls(&mut self, room: &mut Room, read: Span) -> Served {
+        let block = self.ways.block();
+        for at in (read.at..read.to).step_by(block) {
+            let to = (at + block).min(read.to);
+            if let Err(e) = self.call(room, Span { at, to }) {
                 return Served {
-                    count: at,
+                    span: Span {
+                        at: read.at,
+                        to: at,
+                    },
                     ending: Err(e),
                 };
             }
         }
         Served {
-            count: n,
+            span: read,
             ending: Ok(()),
         }
     }
 
-    // Writes what the calls gave for n samples.
-    fn deliver(&self, room: &Room, n: usize) -> Result<(), Ending>
-        requires { n ≤ 4096 }
-    {
-        room.symbols(self.files.output, self.ways.text, n)
+    // Writes symbols, as text or as bytes.
+    fn write_symbols(&self, room: &Room, span: Span) -> io::Result<()> {
+        let mut to = self.files.output;
+        if self.ways.text {
+            let mut y = [0.0f32; 8192];
+            let y = &mut y[..2 * span.len()];
+            cf32::floats(room.symbols(span), y);
+            return lines(to, y, room.marks(span));
+        }
+        to.write_all(room.symbols(span))
+    }
+
+    // Writes what the calls gave.
+    fn deliver(&self, room: &Room, span: Span) -> Result<(), Ending> {
+        self.write_symbols(room, span)
             .map_err(|e| Ending::Unwritten(Target::Symbols, e))?;
-        if self.files.marks.is_wanted() {
-            room.marks(self.files.marks, n)
+        let mut to = self.files.marks;
+        if to.is_wanted() {
+            to.write_all(room.marks(span))
                 .map_err(|e| Ending::Unwritten(Target::Marks, e))?;
         }
         Ok(())
     }
 
-    // Reads at most `want` samples, equalizes and writes; whether there may be more. What could not be written does not count.
-    fn turn(&mut self, room: &mut Room, want: usize) -> Result<bool, Ending>
-        requires { want ≤ 4096 }
-    {
-        let Filled { bytes, more } = fill(self.files.input, &mut room.raw[..8 * want]);
+    // Reads the samples wanted, as far as they come, equalizes and writes; whether there may be more. What could not be written does not count.
+    fn turn(&mut self, room: &mut Room, want: Span) -> Result<bool, Ending> {
+        let Filled { bytes, more } = fill(self.files.input, &mut room.raw[..8 * want.to]);
         let before = self.progress;
-        let served = self.calls(room, bytes / 8);
-        if let Err(e) = self.deliver(room, served.count) {
+        let served = self.calls(room, Span::first(bytes / 8));
+        if let Err(e) = self.deliver(room, served.span) {
             self.progress = before;
             return Err(e);
         }
@@ -350,7 +383,7 @@ impl Stream<'_> {
 
     // A proved loop has to end, and nothing says that a stream does: no stream uses up the turns.
     fn run(&mut self) -> Result<(), Ending> {
-        let want = at_once(self.files.at_hand, self.ways.block);
+        let want = self.ways.at_once(self.files.at_hand);
         let mut room = Room {
             raw: [0; 32768],
             out: [0; 32768],
@@ -363,19 +396,6 @@ impl Stream<'_> {
         }
         Err(Ending::Unread(io::Error::from(io::ErrorKind::Other)))
     }
-}
-
-// How many samples are read at once: of a file as many whole blocks as 4,096 samples hold.
-fn at_once(at_hand: bool, block: usize) -> usize
-    ensures { result ≤ 4096 }
-{
-    if block < 1 || block > MOST {
-        return MOST;
-    }
-    if at_hand {
-        return MOST - MOST % block;
-    }
-    block
 }
 
 pub fn all(
