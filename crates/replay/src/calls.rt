@@ -6,10 +6,8 @@ ghost use Rattle.std.specs.Prelude.{◌≡◌, ◌+◌, ◌*◌, ◌≤◌, leng
 
 use crate::records;
 use crate::records::{Left, Record};
-use crate::words::{floats, same_floats};
+use crate::words::{MOST_TAPS, floats, same_floats};
 use types::{EqualizeState, Equalized};
-
-const MOST_TAPS: u64 = 128;
 
 const MOST_SAMPLES: u64 = 4096;
 
@@ -47,15 +45,7 @@ impl Case<'_> {
         let samples = w.split_off(..2 * k)?;
         let symbols = w.split_off(..2 * k)?;
         let marks = w.split_off(..k.div_ceil(8))?;
-        let (last, mut w) = w.split_first_chunk()?;
-        let left = Left {
-            record: last,
-            weights: w.split_off(..parts)?,
-            window: w.split_off(..parts)?,
-        };
-        if !w.is_empty() {
-            return None;
-        }
+        let left = Left::of(w, parts, parts)?;
         Some(Case {
             record,
             k1: k1 as usize,

@@ -2,15 +2,13 @@
 // line agrees with it, and nothing of a line that is not in its form.
 ghost use Rattle.std.specs.Prelude.{◌≤◌, length};
 
-use crate::patterns::{double, same, single, whole};
-use crate::records::constellation_of;
+use crate::patterns::{case_of, double, same, single, whole};
 use crate::words::floats;
 use types::{C32, CosSin, EqConstellation, Qam};
 
 #[derive(Clone, Copy)]
 pub(crate) struct Leaf {
     pub(crate) name: &'static str,
-    pub(crate) file: &'static str,
     // How many f64 a line begins with.
     pub(crate) doubles: usize,
     pub(crate) agrees: fn(&[u64]) -> Option<bool>,
@@ -18,6 +16,20 @@ pub(crate) struct Leaf {
 }
 
 impl Leaf {
+    pub(crate) fn new(
+        name: &'static str,
+        doubles: usize,
+        agrees: fn(&[u64]) -> Option<bool>,
+    ) -> Leaf
+        requires { IsAlwaysCallable agrees }
+    {
+        Leaf {
+            name,
+            doubles,
+            agrees,
+        }
+    }
+
     // How many digits the word has that stands at a place of a line.
     pub(crate) fn digits(&self, at: usize) -> u32 {
         if at < self.doubles { 16 } else { 8 }
@@ -106,18 +118,22 @@ fn turn(c: u64, s: u64) -> CosSin {
     }
 }
 
-pub(crate) fn derotate(w: &[u64]) -> Option<bool> {
+// A rotation, of a number by a turn.
+fn rotated<F: Fn(C32, CosSin) -> C32>(w: &[u64], rotation: F) -> Option<bool>
+    requires { F.IsAlwaysCallable rotation }
+{
     let [re, im, c, s, y, z] = *w else {
         return None;
     };
-    Some(same_complex(costas::derotate(complex(re, im), turn(c, s)), y, z))
+    Some(same_complex(rotation(complex(re, im), turn(c, s)), y, z))
+}
+
+pub(crate) fn derotate(w: &[u64]) -> Option<bool> {
+    rotated(w, costas::derotate)
 }
 
 pub(crate) fn rotate(w: &[u64]) -> Option<bool> {
-    let [re, im, c, s, y, z] = *w else {
-        return None;
-    };
-    Some(same_complex(costas::rotate(complex(re, im), turn(c, s)), y, z))
+    rotated(w, costas::rotate)
 }
 
 pub(crate) fn octant_point(w: &[u64]) -> Option<bool> {
@@ -131,7 +147,7 @@ pub(crate) fn decide_level(w: &[u64]) -> Option<bool> {
     let [k, x, level] = *w else {
         return None;
     };
-    let qam = match constellation_of(k) {
+    let qam = match case_of(k) {
         Some(EqConstellation::Qam16) => Qam::Qam16,
         Some(EqConstellation::Qam64) => Qam::Qam64,
         _ => return Some(false),
@@ -143,20 +159,14 @@ pub(crate) fn decide(w: &[u64]) -> Option<bool> {
     let [k, re, im, y, z] = *w else {
         return None;
     };
-    let Some(k) = constellation_of(k) else {
-        return Some(false);
-    };
-    Some(same_complex(constellation::decide(k, complex(re, im)), y, z))
+    Some(case_of(k).is_some_and(|k| same_complex(constellation::decide(k, complex(re, im)), y, z)))
 }
 
 pub(crate) fn cma_r2(w: &[u64]) -> Option<bool> {
     let [k, y] = *w else {
         return None;
     };
-    let Some(k) = constellation_of(k) else {
-        return Some(false);
-    };
-    Some(same(constellation::cma_r2(k), y))
+    Some(case_of(k).is_some_and(|k| same(constellation::cma_r2(k), y)))
 }
 
 // The count of taps, the parts of the window, those of the weights, then the sum.

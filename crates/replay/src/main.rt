@@ -13,13 +13,17 @@ mod words;
 
 use crate::leaves::Leaf;
 use crate::lines::Tally;
+use arrayvec::ArrayString;
+use std::fmt::Write;
 use std::fs::File;
 use std::io::Result;
 
 // Replays one file, and adds what was found to a tally.
 fn replay(rt: &HostRuntime, total: &mut Tally, leaf: &Leaf) -> Result<()> {
     let name = leaf.name;
-    let Ok(file) = File::open(rt, leaf.file) else {
+    let mut path: ArrayString<32> = ArrayString::new();
+    let _ = write!(path, "{name}.txt");
+    let Ok(file) = File::open(rt, path.as_str()) else {
         total.add_malformed();
         return println!(rt; "{name}: cannot read");
     };
@@ -30,112 +34,26 @@ fn replay(rt: &HostRuntime, total: &mut Tally, leaf: &Leaf) -> Result<()> {
 
 fn main(rt: HostRuntime) -> Result<()> {
     let leaves = [
-        Leaf {
-            name: "is_finite",
-            file: "is_finite.txt",
-            doubles: 0,
-            agrees: leaves::is_finite,
-        },
-        Leaf {
-            name: "flush_denormal",
-            file: "flush_denormal.txt",
-            doubles: 0,
-            agrees: leaves::flush_denormal,
-        },
-        Leaf {
-            name: "clip",
-            file: "clip.txt",
-            doubles: 0,
-            agrees: leaves::clip,
-        },
-        Leaf {
-            name: "narrow",
-            file: "narrow.txt",
-            doubles: 1,
-            agrees: leaves::narrow,
-        },
-        Leaf {
-            name: "loop_gains",
-            file: "loop_gains.txt",
-            doubles: 2,
-            agrees: leaves::loop_gains,
-        },
-        Leaf {
-            name: "phase_step_f32",
-            file: "phase_step_f32.txt",
-            doubles: 0,
-            agrees: leaves::phase_step,
-        },
-        Leaf {
-            name: "integrate",
-            file: "integrate.txt",
-            doubles: 0,
-            agrees: leaves::integrate,
-        },
-        Leaf {
-            name: "interp_f32_pair",
-            file: "interp_f32_pair.txt",
-            doubles: 0,
-            agrees: leaves::interp_pair,
-        },
-        Leaf {
-            name: "derotate",
-            file: "derotate.txt",
-            doubles: 0,
-            agrees: leaves::derotate,
-        },
-        Leaf {
-            name: "rotate",
-            file: "rotate.txt",
-            doubles: 0,
-            agrees: leaves::rotate,
-        },
-        Leaf {
-            name: "octant_point",
-            file: "octant_point.txt",
-            doubles: 0,
-            agrees: leaves::octant_point,
-        },
-        Leaf {
-            name: "decide_level",
-            file: "decide_level.txt",
-            doubles: 0,
-            agrees: leaves::decide_level,
-        },
-        Leaf {
-            name: "decide",
-            file: "decide.txt",
-            doubles: 0,
-            agrees: leaves::decide,
-        },
-        Leaf {
-            name: "cma_r2",
-            file: "cma_r2.txt",
-            doubles: 0,
-            agrees: leaves::cma_r2,
-        },
-        Leaf {
-            name: "dot_complex",
-            file: "dot_complex.txt",
-            doubles: 0,
-            agrees: leaves::dot_complex,
-        },
-        Leaf {
-            name: "calls",
-            file: "calls.txt",
-            doubles: 0,
-            agrees: calls::agrees,
-        },
-        Leaf {
-            name: "others",
-            file: "others.txt",
-            doubles: 0,
-            agrees: others::agrees,
-        },
+        Leaf::new("is_finite", 0, leaves::is_finite),
+        Leaf::new("flush_denormal", 0, leaves::flush_denormal),
+        Leaf::new("clip", 0, leaves::clip),
+        Leaf::new("narrow", 1, leaves::narrow),
+        Leaf::new("loop_gains", 2, leaves::loop_gains),
+        Leaf::new("phase_step_f32", 0, leaves::phase_step),
+        Leaf::new("integrate", 0, leaves::integrate),
+        Leaf::new("interp_f32_pair", 0, leaves::interp_pair),
+        Leaf::new("derotate", 0, leaves::derotate),
+        Leaf::new("rotate", 0, leaves::rotate),
+        Leaf::new("octant_point", 0, leaves::octant_point),
+        Leaf::new("decide_level", 0, leaves::decide_level),
+        Leaf::new("decide", 0, leaves::decide),
+        Leaf::new("cma_r2", 0, leaves::cma_r2),
+        Leaf::new("dot_complex", 0, leaves::dot_complex),
+        Leaf::new("calls", 0, calls::agrees),
+        Leaf::new("others", 0, others::agrees),
     ];
     let mut total = Tally::default();
-    let all = &leaves[..];
-    for leaf in all {
+    for leaf in &leaves[..] {
         replay(&rt, &mut total, leaf)?;
     }
     println!(rt; "total: {total}")

@@ -4,13 +4,11 @@
 // n weights, m window values.
 ghost use Rattle.std.specs.Prelude.{◌≤◌, length};
 
-use crate::patterns::single;
+use crate::patterns::{case_of, single};
 use crate::records;
 use crate::records::{Left, Record};
-use crate::words::floats;
-use types::{EqualizeState, Equalized, Error};
-
-const MOST_TAPS: u64 = 128;
+use crate::words::{MOST_TAPS, floats};
+use types::{EqualizeState, Equalized, Error, UnknownNumber};
 
 #[derive(Clone, Copy)]
 enum Operation {
@@ -21,18 +19,22 @@ enum Operation {
     SetFrequency,
 }
 
-impl Operation {
-    fn of(n: u64) -> Option<Operation> {
-        Some(match n {
-            0 => Operation::New,
-            1 => Operation::Reset,
-            2 => Operation::SetMuCma,
-            3 => Operation::SetMuDd,
-            4 => Operation::SetFrequency,
-            _ => return None,
-        })
-    }
+impl TryFrom<u32> for Operation {
+    type Error = UnknownNumber;
 
+    fn try_from(number: u32) -> Result<Operation, UnknownNumber> {
+        match number {
+            0 => Ok(Operation::New),
+            1 => Ok(Operation::Reset),
+            2 => Ok(Operation::SetMuCma),
+            3 => Ok(Operation::SetMuDd),
+            4 => Ok(Operation::SetFrequency),
+            _ => Err(UnknownNumber { number }),
+        }
+    }
+}
+
+impl Operation {
     // x is the step size or the frequency.
     fn on(self, s: EqualizeState, x: f32, weights: &mut [f32], window: &mut [f32]) -> Equalized {
         match self {
@@ -75,21 +77,13 @@ impl Case<'_> {
         if n > MOST_TAPS || m > MOST_TAPS {
             return None;
         }
-        let operation = Operation::of(operation)?;
+        let operation = case_of(operation)?;
         let a = 2 * (n as usize);
         let b = 2 * (m as usize);
         let weights = w.split_off(..a)?;
         let window = w.split_off(..b)?;
         let (refusal, w) = w.split_first_chunk()?;
-        let (last, mut w) = w.split_first_chunk()?;
-        let left = Left {
-            record: last,
-            weights: w.split_off(..a)?,
-            window: w.split_off(..b)?,
-        };
-        if !w.is_empty() {
-            return None;
-        }
+        let left = Left::of(w, a, b)?;
         Some(Case {
             record,
             operation,

@@ -1,18 +1,10 @@
 // The record of an equalizer, in 14 words: constellation, feedback taps, mu_cma, mu_dd, cma_symbols, the
 // bandwidth's upper and lower half, kp, ki, mode, count, mse, phase, freq.
-use crate::patterns::{double, same, same_double, single, whole};
+use crate::patterns::{alike, alike_double, case_of, double, single, whole};
 use crate::words::same_floats;
-use types::{EqConstellation, EqMode, EqParams, EqualizeState};
+use types::{EqParams, EqualizeState};
 
 pub(crate) type Record = [u64; 14];
-
-pub(crate) fn constellation_of(w: u64) -> Option<EqConstellation> {
-    EqConstellation::try_from(u32::try_from(w).ok()?).ok()
-}
-
-fn mode_of(w: u64) -> Option<EqMode> {
-    EqMode::try_from(u32::try_from(w).ok()?).ok()
-}
 
 pub(crate) fn record_of(r: &Record) -> Option<EqualizeState> {
     let [
@@ -32,7 +24,7 @@ pub(crate) fn record_of(r: &Record) -> Option<EqualizeState> {
         freq,
     ] = *r;
     let params = EqParams {
-        constellation: constellation_of(k)?,
+        constellation: case_of(k)?,
         feedback_taps: taps as usize,
         mu_cma: single(mu_cma),
         mu_dd: single(mu_dd),
@@ -43,7 +35,7 @@ pub(crate) fn record_of(r: &Record) -> Option<EqualizeState> {
         params,
         kp: single(kp),
         ki: single(ki),
-        mode: mode_of(mode)?,
+        mode: case_of(mode)?,
         count: whole(count),
         mse: single(mse),
         phase: whole(phase),
@@ -51,37 +43,21 @@ pub(crate) fn record_of(r: &Record) -> Option<EqualizeState> {
     })
 }
 
-fn same_record(s: EqualizeState, r: &Record) -> bool {
-    let [
-        k,
-        taps,
-        mu_cma,
-        mu_dd,
-        symbols,
-        upper,
-        lower,
-        kp,
-        ki,
-        mode,
-        count,
-        mse,
-        phase,
-        freq,
-    ] = *r;
-    let p = s.params;
-    (u64::from(u32::from(p.constellation)) == k)
-        & (p.feedback_taps as u64 == taps)
-        & same(p.mu_cma, mu_cma)
-        & same(p.mu_dd, mu_dd)
-        & (u64::from(p.cma_symbols) == symbols)
-        & same_double(p.phase_bw, (upper << 32) | lower)
-        & same(s.kp, kp)
-        & same(s.ki, ki)
-        & (u64::from(u32::from(s.mode)) == mode)
-        & (u64::from(s.count) == count)
-        & same(s.mse, mse)
-        & (u64::from(s.phase) == phase)
-        & same(s.freq, freq)
+fn same_state(s: EqualizeState, t: EqualizeState) -> bool {
+    let (p, q) = (s.params, t.params);
+    (p.constellation == q.constellation)
+        & (p.feedback_taps == q.feedback_taps)
+        & alike(p.mu_cma, q.mu_cma)
+        & alike(p.mu_dd, q.mu_dd)
+        & (p.cma_symbols == q.cma_symbols)
+        & alike_double(p.phase_bw, q.phase_bw)
+        & alike(s.kp, t.kp)
+        & alike(s.ki, t.ki)
+        & (s.mode == t.mode)
+        & (s.count == t.count)
+        & alike(s.mse, t.mse)
+        & (s.phase == t.phase)
+        & alike(s.freq, t.freq)
 }
 
 // What an operation leaves, in words: the record, the weights, the window.
@@ -93,8 +69,20 @@ pub(crate) struct Left<'a> {
 }
 
 impl Left<'_> {
+    // The last words of a line, of so many weights and so many window values.
+    pub(crate) fn of(w: &[u64], weights: usize, window: usize) -> Option<Left<'_>> {
+        let (record, mut w) = w.split_first_chunk()?;
+        let weights = w.split_off(..weights)?;
+        let window = w.split_off(..window)?;
+        w.is_empty().then_some(Left {
+            record,
+            weights,
+            window,
+        })
+    }
+
     pub(crate) fn is(self, s: EqualizeState, weights: &[f32], window: &[f32]) -> bool {
-        same_record(s, self.record)
+        record_of(self.record).is_some_and(|left| same_state(s, left))
             & same_floats(weights, self.weights)
             & same_floats(window, self.window)
     }

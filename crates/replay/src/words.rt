@@ -10,6 +10,10 @@ pub(crate) type Words = ArrayVec<u64, 18000>;
 // The most floats are those of 4,096 samples.
 pub(crate) type Floats = ArrayVec<f32, 8192>;
 
+// The most taps that a line has.
+pub(crate) const MOST_TAPS: u64 = 128;
+
+// A loop: a `collect` would answer an error where there is no room, and there is room for each.
 pub(crate) fn floats(words: &[u64]) -> Floats
     requires { length words.now ≤ 8192 }
     ensures { length result.items ≡ length words.now }
