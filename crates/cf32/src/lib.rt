@@ -35,7 +35,8 @@ fn common(bytes: usize, room: usize) -> usize
     (bytes / 4).min(room)
 }
 
-// The floats of the bytes, as far as both go; the rest of x stays.
+// The floats of the bytes, as far as both go; the rest of x stays. A place for each, since nothing is known of x after a `zip` of its `iter_mut`.
+#[tactic(auto, using(crate::proofs::Passes::read_all))]
 pub fn floats(b: &[u8], x: &mut [f32])
     ensures { x.new ≡ read_into b.now x.old }
 {
@@ -45,7 +46,7 @@ pub fn floats(b: &[u8], x: &mut [f32])
     }
 }
 
-// The bytes of the floats, as far as both go; the rest of b stays.
+// The bytes of the floats, as far as both go; the rest of b stays. A place for each, since nothing is known of b after its `as_chunks_mut`.
 pub fn bytes(x: &[f32], b: &mut [u8])
     ensures { b.new ≡ write_over x.now b.old }
 {
