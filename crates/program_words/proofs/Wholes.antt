@@ -26,9 +26,9 @@ module _ (t : List ℕ) (start value at : ℕ) (q : digit_count t ≡ at + digit
   digits_stop h e = stopped (rw (drop-cons t at 0 h, e)) (rw (drop-cons t at 0 h, e))
 
   -- nothing is left
-  pub digits-end : at ≡ length t → DigitsFrom t 0 start value (length t) (length t)
+  pub digits_end : at ≡ length t → DigitsFrom t 0 start value (length t) (length t)
   unfolding digit_count digit_value
-  digits-end e =
+  digits_end e =
       let h : length t ≤ at = omega arith in
       let s = stopped (rw (drop_of_length-le t h)) (rw (drop_of_length-le t h)) in
       (s.0, omega (arith, s.1), omega arith)
@@ -41,17 +41,17 @@ module _ (t : List ℕ) (start value at : ℕ) (q : digit_count t ≡ at + digit
         let z : digit_count (drop at t) ≡ suc (digit_count (drop (at + 1) t)) = rw (add-one, drop-cons t at 0 h, e) in
         omega arith
 
-    pub value-next : (w : ℕ) → min w too_long ≡ min (value * 10 + (get_or t at 0 - 48)) too_long
+    pub value_next : (w : ℕ) → min w too_long ≡ min (value * 10 + (get_or t at 0 - 48)) too_long
         → min (digit_value start t) too_long ≡ min (digit_value w (drop (at + 1) t)) too_long
     unfolding digit_value
-    value-next w f =
+    value_next w f =
         r ∙ rw (add-one, drop-cons t at 0 h, e) (alike (drop (suc at) t) (value * 10 + (get_or t at 0 - 48)) w (sym f))
 
 -- the verdict on a text, from what digits_of answers
 module _ (t : List ℕ) (most value count : ℕ) (p : DigitsFrom t 0 0 value count count) where
-  pub whole-none : count ≡ 0 → None ≡ whole_of t most
+  pub whole_none : count ≡ 0 → None ≡ whole_of t most
   unfolding whole_of
-  whole-none z = rw (le-ltb 0 (digit_count t) (omega arith))
+  whole_none z = rw (le-ltb 0 (digit_count t) (omega arith))
 
   module _ (n : count ≡ 0 → ⊥) where
     some : ltb 0 (digit_count t) ≡ true
@@ -70,12 +70,12 @@ module _ (t : List ℕ) (most value count : ℕ) (p : DigitsFrom t 0 0 value cou
       whole_long h = rw (some, all, le-ltb (digit_value 0 t) too_long (omega arith))
 
       module _ (h : value < too_long) where
-        pub whole-more : most < value → None ≡ whole_of t most
+        pub whole_more : most < value → None ≡ whole_of t most
         unfolding whole_of
-        whole-more k = rw (some, all, lt-ltb (digit_value 0 t) too_long (omega arith), lt-leb (digit_value 0 t) most (omega arith))
+        whole_more k = rw (some, all, lt-ltb (digit_value 0 t) too_long (omega arith), lt-leb (digit_value 0 t) most (omega arith))
 
-        pub whole-value : value ≤ most → Some value ≡ whole_of t most
+        pub whole_value : value ≤ most → Some value ≡ whole_of t most
         unfolding whole_of
-        whole-value k =
+        whole_value k =
             let v : value ≡ digit_value 0 t = omega arith in
             rw (some, all, lt-ltb (digit_value 0 t) too_long (omega arith), le-leb (digit_value 0 t) most (omega arith), ← v)

@@ -31,6 +31,7 @@ fn with_digit(value: u64, b: u8) -> u64
 }
 
 // The digits that a text starts with.
+#[tactic(auto, using(crate::proofs::Wholes::count_next, crate::proofs::Wholes::value_next))]
 fn digits_of(t: &[u8], start: u64) -> Digits<'_>
     ensures digits { DigitsFrom t.now 0 start result.value result.count result.count }
     ensures rest { result.rest.now ≡ drop result.count t.now }
@@ -54,6 +55,7 @@ fn digits_of(t: &[u8], start: u64) -> Digits<'_>
 }
 
 // A whole number up to `most` and below 10^15.
+#[tactic(auto, using(crate::proofs::Wholes::whole_none, crate::proofs::Wholes::whole_part, crate::proofs::Wholes::whole_long, crate::proofs::Wholes::whole_more, crate::proofs::Wholes::whole_value))]
 pub fn whole_of(t: &[u8], most: u64) -> Option<u64>
     ensures { result ≡ whole_of t.now most }
 {

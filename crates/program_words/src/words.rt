@@ -3,6 +3,7 @@ ghost use Rattle.std.specs.Prelude.{◌≡◌, ◌+◌, ◌≤◌, length, drop}
 ghost use Rattle.program_words.specs.Words.{before, place_in};
 
 // The place of the first byte b from a place on, or the end of the text.
+#[tactic(auto, using(crate::proofs::Texts::end_past))]
 pub fn end_of(t: &[u8], from: usize, b: u8) -> usize
     ensures { result ≡ from + before b (drop from t.now) }
 {
@@ -13,6 +14,7 @@ pub fn end_of(t: &[u8], from: usize, b: u8) -> usize
 }
 
 // The bytes of an argument that name an option: all up to a `=`.
+#[tactic(auto, using(crate::proofs::Texts::before_most))]
 pub fn name_end(t: &[u8]) -> usize
     ensures upper_bound { result ≤ length t.now }
     ensures value { result ≡ before 61 t.now }

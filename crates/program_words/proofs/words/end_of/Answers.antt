@@ -6,7 +6,7 @@ use Rattle.std.proofs.lemmas.Iterator.Search.{position_from_yields_List}
 use Rattle.std.proofs.lemmas.Grind.{common_steps}
 use borrow.Author.Tests.{tests}
 use Rattle.program_words.specs.Words.{before}
-use Rattle.program_words.proofs.Texts.{end_is, end_past}
+use Rattle.program_words.proofs.Texts.{end_is}
 use Rattle.program_words.proofs.words.end_of.Goals as goal
 
 pub returns-in-Some : goal.returns-in-Some
@@ -15,6 +15,3 @@ returns-in-Some c =
     let from_there : rest ≡ drop c.args.from c.args.t.now = grind (arith, common_steps) in
     let found : c.position.result ≡ position (λ b. eqb b c.args.b) rest = position_from_yields_List (λ x. eqb x c.args.b) _ _ c.position.result c.position.ensures.ran (YieldsList-from_slice rest c.iter.ensures.rest) (λ x b q k. search (rules, tests)) in
     ap (λ n. c.args.from + n) (c.unwrap_or.ensures ∙ ap (λ o. unwrap_or o (length rest)) found ∙ end_is c.args.b rest ∙ ap (before c.args.b) from_there)
-
-pub returns-in-None : goal.returns-in-None
-returns-in-None c = end_past _ _ _ c.in-None.ensures.lookup.0
