@@ -72,6 +72,7 @@ impl<const N: usize> Page<N> {
     }
 
     // A number in decimal digits.
+    #[tactic(auto, using(crate::proofs::Numerals::numeral_is))]
     pub fn count(&mut self, n: u64)
         ensures { self.new ≡ written N self.old (numeral n) }
     {
