@@ -35,7 +35,7 @@ fn all(p: Program<'_>) -> Result<(), Status> {
     each(p.rt, count, |at, end| run(p, at, end))
 }
 
-// Takes a step with the arguments of every run, and stops at the first that is not served.
+// Takes a step with the arguments of every run, and stops at the first that is not served. There are no more runs than arguments.
 fn each<F: Fn(usize, usize) -> Result<(), Status>>(
     rt: &HostRuntime,
     count: usize,
@@ -117,11 +117,12 @@ fn is_ready(p: Program<'_>, o: &Options) -> Result<(), Status> {
     Ok(())
 }
 
-// The floats of all taps. At most 999 taps of each kind are asked for.
+// The floats of all taps.
 fn parts_of(o: &Options) -> usize
     ensures { result ≤ 4096 }
 {
-    2 * (o.taps.min(999) + o.params.feedback_taps.min(999))
+    let most = usize::from(options::MOST_TAPS);
+    2 * (o.taps.min(most) + o.params.feedback_taps.min(most))
 }
 
 // The equalizer of a run: its record, and room for weights and window, of which `parts` floats are used.

@@ -123,9 +123,11 @@ fn narrow_of(t: &[u8]) -> Option<f32> {
     numbers::real_of(t).map(numeric::narrow)
 }
 
-// Up to 999 taps are handed to `new`, which says which it takes.
+// Up to so many taps of each kind are handed to `new`, which says which it takes.
+pub(crate) const MOST_TAPS: u16 = 999;
+
 fn taps_of(t: &[u8]) -> Option<usize> {
-    usize::try_from(numbers::whole_of(t, 999)?).ok()
+    usize::try_from(numbers::whole_of(t, u64::from(MOST_TAPS))?).ok()
 }
 
 // `never` is the count that is not reached.
@@ -137,10 +139,8 @@ fn symbols_of(t: &[u8]) -> Option<u32> {
 }
 
 fn block_of(t: &[u8]) -> Option<usize> {
-    match usize::try_from(numbers::whole_of(t, 4096)?) {
-        Ok(0) | Err(_) => None,
-        Ok(n) => Some(n),
-    }
+    let n = usize::try_from(numbers::whole_of(t, 4096)?).ok()?;
+    (n > 0).then_some(n)
 }
 
 fn path_of(t: &[u8]) -> Option<Path> {
@@ -260,7 +260,7 @@ fn text_of(rt: &HostRuntime, v: Value) -> Result<arguments::Text, Fault> {
 }
 
 // The options of the arguments from `start` to before `end`. Every turn takes an argument or two, so there are no more turns than arguments,
-// and the place goes on by itself.
+// and the place goes on by itself. No `while`: a proof that it ends would want of `take` a promise that the place goes on, and a measure.
 pub(crate) fn read(rt: &HostRuntime, start: usize, end: usize) -> Result<Options, Fault> {
     let mut o = Options::default();
     let mut at = start;
