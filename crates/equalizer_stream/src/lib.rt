@@ -24,7 +24,7 @@ pub struct Ways {
 }
 
 impl Ways {
-    // How many samples a call takes: as many as can be where none or more are asked for.
+    // How many samples a call takes. Anybody may write the field, 0 and too many too: these are as many as can be.
     fn block(self) -> usize
         ensures { (0 < result) × (result ≤ 4096) }
     {
@@ -37,11 +37,8 @@ impl Ways {
     // The samples that are read at once: of an input at hand as many whole blocks as there is room for.
     fn at_once(self, at_hand: bool) -> Span {
         let block = self.block();
-        if at_hand {
-            Span::first(MOST - MOST % block)
-        } else {
-            Span::first(block)
-        }
+        let to = if at_hand { MOST - MOST % block } else { block };
+        Span { at: 0, to }
     }
 }
 
@@ -218,14 +215,6 @@ struct Span {
 }
 
 impl Span {
-    // The first n.
-    fn first(n: usize) -> Span
-        requires { n ≤ 4096 }
-        ensures { (result.at ≡ 0) × (result.to ≡ n) }
-    {
-        Span { at: 0, to: n }
-    }
-
     fn len(self) -> usize
         ensures { result ≡ self.to - self.at }
     {
@@ -366,9 +355,14 @@ impl Stream<'_> {
 
     // Reads the samples wanted, as far as they come, equalizes and writes; whether there may be more. What could not be written does not count.
     fn turn(&mut self, room: &mut Room, want: Span) -> Result<bool, Ending> {
-        let Filled { bytes, more } = fill(self.files.input, &mut room.raw[..8 * want.to]);
+        let Span { at, to } = want;
+        let Filled { bytes, more } = fill(self.files.input, &mut room.raw[8 * at..8 * to]);
         let before = self.progress;
-        let served = self.calls(room, Span::first(bytes / 8));
+        let read = Span {
+            at,
+            to: at + bytes / 8,
+        };
+        let served = self.calls(room, read);
         if let Err(e) = self.deliver(room, served.span) {
             self.progress = before;
             return Err(e);

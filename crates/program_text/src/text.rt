@@ -64,7 +64,7 @@ impl<const N: usize> Page<N> {
         self.used += n;
     }
 
-    // The text of a number in a list of texts with a line end behind each, counted from 0.
+    // The text of a number in a list of texts with a line end behind each, counted from 0. The program here prints none; what it promises stays.
     pub fn entry(&mut self, list: &[u8], number: usize)
         ensures { self.new ≡ written N self.old (entry_of list.now number) }
     {
@@ -126,7 +126,7 @@ struct Scaled {
 }
 
 // Brought between 10^8 and 10^9 by steps of ten. Each step rounds, by some 10^-16 of the value at most, so that the ninth digit is the
-// nearest but for a near tie; nine digits tell any two f32 apart.
+// nearest but for a near tie; nine digits tell any two f32 apart. No f32 takes 64 steps.
 fn nine_digits(x: f64) -> Scaled {
     let mut v = x;
     let mut exponent = 8i32;

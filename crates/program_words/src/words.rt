@@ -22,7 +22,7 @@ pub fn name_end(t: &[u8]) -> usize
     end_of(t, 0, b'=')
 }
 
-// The place of a word in a list of words with a blank behind each: as many words as blanks.
+// The place of a word in a list of words with a blank behind each: as many words as blanks. The program here asks for none; what it promises stays.
 pub fn place(list: &[u8], word: &[u8]) -> Option<usize>
     ensures { result ≡ place_in list.now word.now }
 {
