@@ -80,24 +80,16 @@ pub(crate) fn refused(p: Program<'_>, e: types::Error) -> Told {
 
 // Bytes that are no marks are named only where there are some.
 fn counts(p: Program<'_>, t: Tally) {
-    let parts = [
-        Count(t.samples),
-        Words(b" samples: "),
-        Count(t.heard),
-        Words(b" heard, "),
-        Count(t.blank),
-        Words(b" blank, "),
-        Count(t.spilled),
-        Words(b" spilled"),
-        Words(b", "),
-        Count(t.unknown),
-        Words(b" unknown"),
-    ];
-    if t.unknown == 0 {
-        p.tell(&parts[..8]);
-    } else {
-        p.tell(&parts);
+    let mut line: Page<256> = Page::new();
+    let _ = write!(
+        line,
+        "{} samples: {} heard, {} blank, {} spilled",
+        t.samples, t.heard, t.blank, t.spilled
+    );
+    if t.unknown > 0 {
+        let _ = write!(line, ", {} unknown", t.unknown);
     }
+    p.tell(&[Words(line.bytes())]);
 }
 
 fn record(p: Program<'_>, s: EqualizeState) {
