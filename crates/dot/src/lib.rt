@@ -9,12 +9,12 @@ ghost use Rattle.dot.specs.Parts.{product_re, product_im, product_at};
 
 use types::C32;
 
-// A part of the complex product (a + bi) (c + di).
+// A part of the complex product x w.
 pub trait Part {
     ghost product: { Float → Float → Float → Float → Float };
 
-    fn product(a: f32, b: f32, c: f32, d: f32) -> f32
-        ensures { result ≡ product a b c d };
+    fn product(x: C32, w: C32) -> f32
+        ensures { result ≡ product x.re x.im w.re w.im };
 }
 
 // The real part.
@@ -23,8 +23,8 @@ pub struct Re;
 impl Part for Re {
     ghost product = { product_re };
 
-    fn product(a: f32, b: f32, c: f32, d: f32) -> f32 {
-        a * c - b * d
+    fn product(x: C32, w: C32) -> f32 {
+        x.re * w.re - x.im * w.im
     }
 }
 
@@ -34,8 +34,8 @@ pub struct Im;
 impl Part for Im {
     ghost product = { product_im };
 
-    fn product(a: f32, b: f32, c: f32, d: f32) -> f32 {
-        a * d + b * c
+    fn product(x: C32, w: C32) -> f32 {
+        x.re * w.im + x.im * w.re
     }
 }
 
@@ -60,11 +60,11 @@ fn product_at<P: Part>(t: Taps, i: usize) -> f32
     requires { i < t.n }
     ensures { result ≡ product_at P.product t.entry.x.now t.entry.w.now i }
 {
-    let j = 2 * i;
-    P::product(t.x[j], t.x[j + 1], t.w[j], t.w[j + 1])
+    P::product(complex::at(t.x, i), complex::at(t.w, i))
 }
 
-// Adds the products i .. i + 7 to the partial sums.
+// Adds the products i .. i + 7 to the partial sums. No function over a closure for this loop and the like in lanes_filter and lanes_prepare: of two lines
+// each, and by `F.pre` and `F.post` its contract would be longer than the three.
 fn block<P: Part>(a: &mut [f32; 8], t: Taps, i: usize)
     requires { i + 8 ≤ t.n }
     ensures { Added (product_at P.product t.entry.x.now t.entry.w.now) i 8 a.old a.new }
@@ -76,6 +76,7 @@ fn block<P: Part>(a: &mut [f32; 8], t: Taps, i: usize)
 
 // Adds the products i .. i + m - 1, at most eight, in eight turns with a test in each, which unrolls: the partial sums stay in registers. By an index:
 // over `iter_mut` a turn without a product leaves a goal that no answer closed.
+#[tactic(auto, using(crate::proofs::Lanes::added_turn, crate::proofs::Lanes::added_past))]
 fn rest<P: Part>(a: &mut [f32; 8], t: Taps, i: usize, m: usize)
     requires { (m ≤ 8) × (i + m ≤ t.n) }
     ensures { Added (product_at P.product t.entry.x.now t.entry.w.now) i m a.old a.new }
@@ -87,7 +88,7 @@ fn rest<P: Part>(a: &mut [f32; 8], t: Taps, i: usize, m: usize)
     }
 }
 
-// The part of the sum, by blocks of eight.
+// The part of the sum, by blocks of eight, counted: a block is a place in both slices.
 fn sum<P: Part>(t: Taps) -> f32
     ensures { result ≡ sum8 (product_at P.product t.entry.x.now t.entry.w.now) t.entry.n }
 {
