@@ -2,10 +2,21 @@
 
 #![tactic(auto)]
 
+ghost use Rattle.std.specs.Prelude.{◌≡◌, ◌+◌, ◌-◌, ◌<◌, ◌≤◌, length, get_or, set};
+ghost use Rattle.std.specs.Float.{nan};
+ghost use Rattle.definition.specs.Floats.{complex};
 ghost use Rattle.lanes.specs.Fits.{Fits};
+
+use types::C32;
 
 // The most samples of a run.
 pub const RUN: usize = 64;
+
+// The lanes of the weights, half of them for the forward taps.
+pub const LANES: usize = 144;
+
+// The places of the window, half of them for the forward window.
+pub const PLACES: usize = 288;
 
 // The numbers of a call: the lanes of the sums and of the steps, forward and feedback, the padding in front of the feedback lanes, the feedback taps
 // and the centre tap.
@@ -21,32 +32,139 @@ pub struct Shape {
     pub ghost fits: { Fits lanes more quads mquads front m centre },
 }
 
-// The weights: 72 lanes of the forward taps, then 72 of the feedback taps.
+// Lanes of a sum or of a step: the window from `at` on beside the weights from `from` on.
+#[derive(Clone, Copy)]
+pub struct Half {
+    pub at: usize,
+    pub from: usize,
+    pub lanes: usize,
+    pub ghost within: { (at + lanes ≤ 288) × (from + lanes ≤ 144) },
+}
+
+// Both halves of a sum or of a step.
+#[derive(Clone, Copy)]
+pub struct Halves {
+    pub forth: Half,
+    pub fed: Half,
+    pub ghost apart: { (forth.from ≡ 0) × (fed.from ≡ 72) },
+    pub ghost fits: { (forth.lanes ≤ 72) × (fed.lanes ≤ 72) },
+}
+
+// `lanes` forward and `more` feedback lanes of the sample at `at`, the feedback lanes with `front` of padding before them.
+fn beside(at: usize, front: usize, lanes: usize, more: usize) -> Halves
+    requires low { (at ≤ 63) × (front < 8) }
+    requires fits { (lanes ≤ 72) × (more ≤ 72) }
+    ensures forth { (result.forth.at ≡ at) × (result.forth.lanes ≡ lanes) }
+    ensures fed { (result.fed.at ≡ at + 153 - front) × (result.fed.lanes ≡ more) }
+{
+    Halves {
+        forth: Half { at, from: 0, lanes },
+        fed: Half {
+            at: at + (Window::BACK + 1) - front,
+            from: Weights::BACK,
+            lanes: more,
+        },
+    }
+}
+
+impl Shape {
+    // The halves of the sum for the sample at `at`.
+    pub fn sums(self, at: usize) -> Halves
+        requires { at ≤ 63 }
+        ensures forth { (result.forth.at ≡ at) × (result.forth.lanes ≡ self.lanes) }
+        ensures fed { (result.fed.at ≡ at + 153 - self.front) × (result.fed.lanes ≡ self.more) }
+    {
+        beside(at, self.front, self.lanes, self.more)
+    }
+
+    // The halves of the weights' step.
+    pub fn steps(self, at: usize) -> Halves
+        requires { at ≤ 63 }
+        ensures forth { (result.forth.at ≡ at) × (result.forth.lanes ≡ self.quads) }
+        ensures fed { (result.fed.at ≡ at + 153 - self.front) × (result.fed.lanes ≡ self.mquads) }
+    {
+        beside(at, self.front, self.quads, self.mquads)
+    }
+}
+
+// The weights: half of the lanes for the forward taps, then half for the feedback taps. Here and in the window parts stand apart: the sums and the steps run over eight
+// lanes of one part at a time.
 #[derive(Clone, Copy)]
 pub struct Weights {
-    pub re: [f32; 144],
-    pub im: [f32; 144],
+    pub re: [f32; LANES],
+    pub im: [f32; LANES],
 }
 
 impl Weights {
     pub const ZERO: Weights = Weights {
-        re: [0.0; 144],
-        im: [0.0; 144],
+        re: [0.0; LANES],
+        im: [0.0; LANES],
     };
+
+    // The first lane of the feedback taps.
+    pub const BACK: usize = LANES / 2;
+
+    // The weight in lane k.
+    pub fn at(&self, k: usize) -> C32
+        requires { k < 144 }
+        ensures { result ≡ complex (get_or self.now.re k nan) (get_or self.now.im k nan) }
+    {
+        C32 {
+            re: self.re[k],
+            im: self.im[k],
+        }
+    }
+
+    // The weight in lane k set to v.
+    pub fn put(&mut self, k: usize, v: C32)
+        requires { k < 144 }
+        ensures re { self.new.re ≡ set self.old.re k v.re }
+        ensures im { self.new.im ≡ set self.old.im k v.im }
+        ensures long { (length self.old.re ≡ 144) × (length self.old.im ≡ 144) }
+    {
+        self.re[k] = v.re;
+        self.im[k] = v.im;
+    }
 }
 
-// The window, with its re² + im²: the forward window in the places before 144, the feedback window from there on.
+// The window, with its re² + im²: the forward window in the lower half of the places, the feedback window in the upper half.
 #[derive(Clone, Copy)]
 pub struct Window {
-    pub re: [f32; 288],
-    pub im: [f32; 288],
-    pub squares: [f32; 288],
+    pub re: [f32; PLACES],
+    pub im: [f32; PLACES],
+    pub squares: [f32; PLACES],
 }
 
 impl Window {
     pub const ZERO: Window = Window {
-        re: [0.0; 288],
-        im: [0.0; 288],
-        squares: [0.0; 288],
+        re: [0.0; PLACES],
+        im: [0.0; PLACES],
+        squares: [0.0; PLACES],
     };
+
+    // A feedback window stands so many places above its forward window; with a sample put in before that one, one more.
+    pub const BACK: usize = 152;
+
+    // The value at j.
+    pub fn at(&self, j: usize) -> C32
+        requires { j < 288 }
+        ensures { result ≡ complex (get_or self.now.re j nan) (get_or self.now.im j nan) }
+    {
+        C32 {
+            re: self.re[j],
+            im: self.im[j],
+        }
+    }
+
+    // The value at j set to v; its square is as it was.
+    pub fn put(&mut self, j: usize, v: C32)
+        requires { j < 288 }
+        ensures re { self.new.re ≡ set self.old.re j v.re }
+        ensures im { self.new.im ≡ set self.old.im j v.im }
+        ensures long { (length self.old.re ≡ 288) × (length self.old.im ≡ 288) }
+        ensures squares { self.new.squares ≡ self.old.squares }
+    {
+        self.re[j] = v.re;
+        self.im[j] = v.im;
+    }
 }
