@@ -5,15 +5,19 @@ ghost use Rattle.std.specs.Prelude.{◌≡◌, ◌+◌, ◌*◌, ◌≤◌, leng
 ghost use Rattle.lanes_load.specs.Load.{Joined, Loaded, Moved};
 ghost use Rattle.lanes.specs.Holds.{Limits};
 
-// count complex values of x, from `from` on, into the lanes from `at` on. By an index: it is a place in three arrays, as in `joined`.
+use lanes::{LANES, PLACES, Weights};
+use types::C32;
+
+// count complex values of x, from `from` on, into the lanes from `at` on. By an index, as in `joined`: behind a `zip` of `iter_mut` a proof knows no element.
 pub fn split(re: &mut [f32], im: &mut [f32], at: usize, x: &[f32], from: usize, count: usize)
     requires count_in_bounds { (at + count ≤ length re.old) × (at + count ≤ length im.old) }
     requires count_in_bounds_2 { 2 * (from + count) ≤ length x.now }
     ensures { Loaded x.now at from count re.old im.old re.new im.new }
 {
     for i in 0..count {
-        re[at + i] = x[2 * (from + i)];
-        im[at + i] = x[2 * (from + i) + 1];
+        let v = complex::at(x, from + i);
+        re[at + i] = v.re;
+        im[at + i] = v.im;
     }
 }
 
@@ -24,26 +28,29 @@ pub fn joined(x: &mut [f32], re: &[f32], im: &[f32], at: usize, from: usize, cou
     ensures { Joined re.now im.now at from count x.old x.new }
 {
     for i in 0..count {
-        x[2 * (from + i)] = re[at + i];
-        x[2 * (from + i) + 1] = im[at + i];
+        let v = C32 {
+            re: re[at + i],
+            im: im[at + i],
+        };
+        complex::put(x, from + i, v);
     }
 }
 
 // count values from `from` on to the place `to`.
-pub fn moved(x: &mut [f32; 288], from: usize, to: usize, count: usize)
+pub fn moved(x: &mut [f32; PLACES], from: usize, to: usize, count: usize)
     requires { (from ≤ to) × (to + count ≤ 288) }
     ensures { Moved from to count x.old x.new }
 {
     x.copy_within(from..from + count, to);
 }
 
-// The limits of the lanes: TINY for n forward weights, from 0 on, and m feedback weights, from 72 + front on, infinity for padding.
-pub fn limits(n: usize, front: usize, m: usize) -> [f32; 144]
+// The limits of the lanes: TINY for n forward weights, from 0 on, and m feedback weights, `front` behind the first feedback lane on, infinity for padding.
+pub fn limits(n: usize, front: usize, m: usize) -> [f32; LANES]
     requires { (n ≤ 72) × (front + m ≤ 72) }
     ensures { Limits result 0 0 n × Limits result 72 front m }
 {
-    let back = 72 + front;
-    let mut limit = [f32::INFINITY; 144];
+    let back = Weights::BACK + front;
+    let mut limit = [f32::INFINITY; LANES];
     limit[..n].fill(numeric::TINY);
     limit[back..back + m].fill(numeric::TINY);
     limit
