@@ -6,25 +6,14 @@ ghost use Rattle.lanes_filter.specs.Split.{split_at, Onto, sum_two};
 ghost use Rattle.dot.specs.Added.{Added};
 
 use dot::Part;
-use lanes::{Weights, Window};
-
-// Lanes of the sum: the window from `at` on and the weights from `from` on, in whole blocks of eight.
-#[derive(Clone, Copy)]
-pub struct Half {
-    pub at: usize,
-    pub from: usize,
-    pub lanes: usize,
-    pub ghost within: { (at + lanes ≤ 288) × (from + lanes ≤ 144) },
-    pub ghost blocks: { lanes % 8 ≡ 0 },
-}
+use lanes::{Half, Weights, Window};
 
 // The part of window value at + j times weight from + j.
 fn product_at<P: Part>(h: &Window, w: &Weights, p: Half, j: usize) -> f32
     requires { j < p.lanes }
     ensures { result ≡ split_at P.product h.now.re h.now.im w.now.re w.now.im p.at p.from j }
 {
-    let (i, k) = (p.at + j, p.from + j);
-    P::product(h.re[i], h.im[i], w.re[k], w.im[k])
+    P::product(h.at(p.at + j), w.at(p.from + j))
 }
 
 // Adds eight products, from i on, to the eight partial sums.
@@ -37,8 +26,9 @@ fn add_block<P: Part>(acc: &mut [f32; 8], h: &Window, w: &Weights, p: Half, i: u
     }
 }
 
-// All blocks of a half.
+// All blocks of a half. By their number: a block is a place in both structs, and no part of one slice.
 fn add_half<P: Part>(acc: &mut [f32; 8], h: &Window, w: &Weights, p: Half)
+    requires { p.lanes % 8 ≡ 0 }
     ensures { Onto (split_at P.product h.now.re h.now.im w.now.re w.now.im p.at p.from) p.lanes acc.old acc.new }
 {
     for b in 0..p.lanes / 8 {
@@ -46,8 +36,10 @@ fn add_half<P: Part>(acc: &mut [f32; 8], h: &Window, w: &Weights, p: Half)
     }
 }
 
-// The part of the sum over both halves, one after the other.
+// The part of the sum over both halves, one after the other, each of whole blocks of eight.
+#[tactic(auto, using(crate::proofs::Blocks::onto_tree))]
 pub fn dot_split<P: Part>(h: &Window, w: &Weights, p: Half, q: Half) -> f32
+    requires blocks { (p.lanes % 8 ≡ 0) × (q.lanes % 8 ≡ 0) }
     ensures { result ≡ sum_two (split_at P.product h.now.re h.now.im w.now.re w.now.im p.at p.from) p.lanes
         (split_at P.product h.now.re h.now.im w.now.re w.now.im q.at q.from) q.lanes }
 {
