@@ -6,8 +6,7 @@ use mathlib.Core.List.{List}
 use native.Mathlib.Omega.{arith}
 use lib.ListN.{length, get_or, set}
 use lib.Ieee.{Float, nan}
-use Rattle.definition.specs.Floats.{◌+f◌, ◌-f◌, ◌*f◌}
-use Rattle.lanes_adapt.specs.Steps.{kept_of, lane_re, lane_im, step_re, step_im, uneven, any_of, Replaced}
+use Rattle.lanes_adapt.specs.Steps.{lane_re, lane_im, step_re, step_im, uneven, any_of, Replaced}
 use Rattle.lanes_adapt.proofs.Loops.{replaced_none, replaced_more, any_none, any_more}
 
 pub record HalfLoop (wr₀ wi₀ limit xr xi : List Float) (at o : ℕ) (gr gi : Float) (i : ℕ) (wr wi : List Float) (bad : Bool) : Type 0 where
@@ -20,11 +19,10 @@ half_none wr wi limit xr xi at o gr gi = record { re = replaced_none _ _ _; im =
 
 pub half_more : (wr₀ wi₀ limit xr xi : List Float) (at o : ℕ) (gr gi : Float) (i : ℕ) (wr wi : List Float) (bad b : Bool) (r m : Float)
     → HalfLoop wr₀ wi₀ limit xr xi at o gr gi i wr wi bad → o + i < length wr → o + i < length wi
-    → r ≡ kept_of (get_or wr (o + i) nan -f (gr *f get_or xr (at + i) nan +f gi *f get_or xi (at + i) nan)) (get_or limit (o + i) nan)
-    → m ≡ kept_of (get_or wi (o + i) nan -f (gi *f get_or xr (at + i) nan -f gr *f get_or xi (at + i) nan)) (get_or limit (o + i) nan)
+    → r ≡ lane_re (get_or wr (o + i) nan) (get_or limit (o + i) nan) (get_or xr (at + i) nan) (get_or xi (at + i) nan) gr gi
+    → m ≡ lane_im (get_or wi (o + i) nan) (get_or limit (o + i) nan) (get_or xr (at + i) nan) (get_or xi (at + i) nan) gr gi
     → b ≡ uneven r m
     → HalfLoop wr₀ wi₀ limit xr xi at o gr gi (i + 1) (set wr (o + i) r) (set wi (o + i) m) (bad || b)
-unfolding lane_re lane_im
 half_more wr₀ wi₀ limit xr xi at o gr gi i wr wi bad b r m s lr li er em eb =
     let kr = s.re.high (o + i) (omega arith) in
     let km = s.im.high (o + i) (omega arith) in

@@ -10,20 +10,21 @@ use lib.Dec.{T}
 use lib.Ieee.{Float, nan, inf}
 use lib.Ieee.Scale.{finite}
 use Rattle.types.specs.Bits.{zero32}
-use Rattle.definition.specs.Floats.{◌+f◌, ◌-f◌, ◌*f◌, tiny, complex}
+use Rattle.definition.specs.Floats.{tiny, complex}
 use Rattle.definition.specs.Slices.{re_at, im_at, new_re, new_im, updated}
-use Rattle.lanes_adapt.specs.Steps.{uneven, lane_re, lane_im, step_re, step_im, any_of, broken_at, broken_in, clear_of, clear_in, Within}
+use Rattle.lanes_adapt.specs.Steps.{kept_of, uneven, lane_re, lane_im, step_re, step_im, any_of, broken_at, broken_in, clear_of, clear_in, Within}
 use Rattle.lanes.specs.Holds.{Lies, Unused, Half, Limits}
 use Rattle.lanes_adapt.proofs.Tests.{kept_tiny, kept_top_fine, even_fine, fine_even, any_false, none_any, tiny_low, tiny_not_high, top_not_low, top_high}
 use Rattle.lanes_adapt.proofs.Update.{updated-re, updated-im}
 
-lane_pad_re : (w l a b gr gi : Float) → l ≡ inf false → T (finite (lane_re w l a b gr gi)) → lane_re w l a b gr gi ≡ zero32
-unfolding lane_re
-lane_pad_re w l a b gr gi e h = rw e (kept_top_fine (w -f (gr *f a +f gi *f b)) (rw e at h))
+lane_pad : (v l : Float) → l ≡ inf false → T (finite (kept_of v l)) → kept_of v l ≡ zero32
+lane_pad v l e h = rw e (kept_top_fine v (rw e at h))
 
-lane_pad_im : (w l a b gr gi : Float) → l ≡ inf false → T (finite (lane_im w l a b gr gi)) → lane_im w l a b gr gi ≡ zero32
-unfolding lane_im
-lane_pad_im w l a b gr gi e h = rw e (kept_top_fine (w -f (gi *f a -f gr *f b)) (rw e at h))
+-- padding of either part: stepped, or behind the lanes of the step
+pad_at : (f : ℕ → Float) (o K i : ℕ) (old new : List Float) → Within f o K old new → i < 72 → get_or old (o + i) nan ≡ zero32 → (i < K → f i ≡ zero32) → Dec (i < K)
+    → get_or new (o + i) nan ≡ zero32
+pad_at f o K i old new m r z p (yes b) = m.done i b ∙ p b
+pad_at f o K i old new m r z p (no b) = m.kept i (omega arith) r ∙ z
 
 clear_tap : (v l : Float) (all : Bool) → l ≡ tiny → all ≡ false → clear_of v l all ≡ v
 unfolding clear_of
@@ -77,27 +78,20 @@ module _ (re im limit xr xi w h : List Float) (a o from base count K N : ℕ) (g
     lane-fine : (i : ℕ) → i < K → T (finite (step_re re limit xr xi a o gr gi i)) × T (finite (step_im im limit xr xi a o gr gi i))
     lane-fine i b = even_fine _ _ (any_false (λ i. uneven (step_re re limit xr xi a o gr gi i) (step_im im limit xr xi a o gr gi i)) K calm i b)
 
-    pad-at-re : (i : ℕ) → i < 72 → get_or limit (o + i) nan ≡ inf false → get_or re (o + i) nan ≡ zero32 → Dec (i < K) → get_or re' (o + i) nan ≡ zero32
-    pad-at-re i r p z (yes b) = mr.done i b ∙ lane_pad_re _ _ _ _ _ _ p (lane-fine i b).0
-    pad-at-re i r p z (no b) = mr.kept i (omega arith) r ∙ z
-
-    pad-at-im : (i : ℕ) → i < 72 → get_or limit (o + i) nan ≡ inf false → get_or im (o + i) nan ≡ zero32 → Dec (i < K) → get_or im' (o + i) nan ≡ zero32
-    pad-at-im i r p z (yes b) = mi.done i b ∙ lane_pad_im _ _ _ _ _ _ p (lane-fine i b).1
-    pad-at-im i r p z (no b) = mi.kept i (omega arith) r ∙ z
-
     pub calm-half : Half re' im' o from (updated N (complex gr gi) w h) base count
+    unfolding lane_re lane_im
     calm-half = record {
       long = mr.long ∙ s.long;
       long' = mi.long ∙ s.long';
       room = s.room;
       lies = new-lies;
       early = record {
-        re_zero = λ i p q. pad-at-re i (omega (arith, s.room)) (l.early i q) (s.early.re_zero i p q) (dec_lt i K);
-        im_zero = λ i p q. pad-at-im i (omega (arith, s.room)) (l.early i q) (s.early.im_zero i p q) (dec_lt i K);
+        re_zero = λ i p q. pad_at _ o K i re re' mr (omega (arith, s.room)) (s.early.re_zero i p q) (λ b. lane_pad _ _ (l.early i q) (lane-fine i b).0) (dec_lt i K);
+        im_zero = λ i p q. pad_at _ o K i im im' mi (omega (arith, s.room)) (s.early.im_zero i p q) (λ b. lane_pad _ _ (l.early i q) (lane-fine i b).1) (dec_lt i K);
       };
       late = record {
-        re_zero = λ i p q. pad-at-re i q (l.late i p q) (s.late.re_zero i p q) (dec_lt i K);
-        im_zero = λ i p q. pad-at-im i q (l.late i p q) (s.late.im_zero i p q) (dec_lt i K);
+        re_zero = λ i p q. pad_at _ o K i re re' mr q (s.late.re_zero i p q) (λ b. lane_pad _ _ (l.late i p q) (lane-fine i b).0) (dec_lt i K);
+        im_zero = λ i p q. pad_at _ o K i im im' mi q (s.late.im_zero i p q) (λ b. lane_pad _ _ (l.late i p q) (lane-fine i b).1) (dec_lt i K);
       };
     }
 

@@ -13,21 +13,8 @@ use Rattle.types.specs.declared.C32.{C32}
 use Rattle.types.specs.Bits.{zero32, one32}
 use Rattle.definition.specs.Slices.{re_at, im_at, part, tabulate, new_re, new_im, updated, start_weights, every}
 use Rattle.definition_laws.proofs.Every.{length_tabulate}
+use Rattle.definition_laws.proofs.Mapped.{part_even, part_odd}
 use Rattle.lanes_adapt.proofs.Tests.{every_intro}
-
-part_even : (re im : ℕ → Float) (i : ℕ) → part re im (2 * i) ≡ re i
-unfolding part
-part_even re im i =
-    let r : 2 * i % 2 ≡ 0 = omega arith in
-    let q : 2 * i / 2 ≡ i = omega arith in
-    rw (r, q)
-
-part_odd : (re im : ℕ → Float) (i : ℕ) → part re im (2 * i + 1) ≡ im i
-unfolding part
-part_odd re im i =
-    let r : (2 * i + 1) % 2 ≡ 1 = omega arith in
-    let q : (2 * i + 1) / 2 ≡ i = omega arith in
-    rw (r, q)
 
 tab_go : (f : ℕ → Float) (n k : ℕ) → k < suc n → (k < n → get_or (tabulate n f) k nan ≡ f k) → Dec (k ≡ n) → get_or (tabulate n f ++ f n ∷ []) k nan ≡ f k
 tab_go f n k h r (yes e) = rw e (get_or_at (tabulate n f) (f n) [] nan n (length_tabulate n f))

@@ -4,10 +4,10 @@
 ghost use Rattle.std.specs.Prelude.{◌≡◌, ◌+◌, ◌<◌, ◌≤◌};
 ghost use Rattle.lanes.specs.Adapts.{Adapts};
 ghost use Rattle.lanes_adapt.specs.Settled.{Settled, ruined};
-ghost use Rattle.lanes_adapt.specs.Steps.{any_of, broken_at, clear_in, clear_of, kept_of, Replaced, step_im, step_re, uneven};
+ghost use Rattle.lanes_adapt.specs.Steps.{any_of, broken_at, clear_in, clear_of, kept_of, lane_im, lane_re, Replaced, step_im, step_re, uneven};
 
-use lanes::{Weights, Window};
-use types::Update;
+use lanes::{Half, Halves, LANES, Weights, Window};
+use types::{C32, Update};
 
 // +0 where |v| is below the lane's limit: TINY, and infinity for padding.
 #[tactic(auto, unfolding(crate::specs::Steps::kept_of))]
@@ -17,82 +17,84 @@ fn kept(v: f32, limit: f32) -> f32
     if (v < limit) & (v > -limit) { 0.0 } else { v }
 }
 
-// Whether r or m is not finite.
+// Whether a part of v is not finite.
 #[tactic(auto, unfolding(crate::specs::Steps::uneven))]
-fn apart(r: f32, m: f32) -> bool
-    ensures { result ≡ uneven r m }
+fn apart(v: C32) -> bool
+    ensures { result ≡ uneven v.re v.im }
 {
-    (r - r) != (m - m)
+    (v.re - v.re) != (v.im - v.im)
 }
 
-// A step of the lanes from `from` on, whose window begins at `at`; whether some lane is not finite. By an index: five arrays at two offsets.
-// The parts of g·conj(h) stand as they are: `dot::Part` would have them with the names and places swapped. No `any` for the flag: it leaves early.
-fn update_half(
-    w: &mut Weights,
-    limit: &[f32; 144],
-    h: &Window,
-    at: usize,
-    from: usize,
-    lanes: usize,
-    gr: f32,
-    gi: f32,
-) -> bool
-    requires { (at + lanes ≤ 288) × (from + lanes ≤ 144) }
-    ensures re { Replaced (step_re w.old.re limit.now h.now.re h.now.im at from gr gi) from lanes w.old.re w.new.re }
-    ensures im { Replaced (step_im w.old.im limit.now h.now.re h.now.im at from gr gi) from lanes w.old.im w.new.im }
-    ensures value { result ≡ any_of lanes (λ i. uneven (step_re w.old.re limit.now h.now.re h.now.im at from gr gi i) (step_im w.old.im limit.now h.now.re h.now.im at from gr gi i)) }
+// The weight w after a step by g·conj(x). Its parts stand as they are: `dot::Part` would have them with the names and places swapped.
+#[tactic(auto, unfolding(crate::specs::Steps::lane_re, crate::specs::Steps::lane_im))]
+fn stepped(w: C32, limit: f32, x: C32, g: C32) -> C32
+    ensures re { result.re ≡ lane_re w.re limit x.re x.im g.re g.im }
+    ensures im { result.im ≡ lane_im w.im limit x.re x.im g.re g.im }
+{
+    C32 {
+        re: kept(w.re - (g.re * x.re + g.im * x.im), limit),
+        im: kept(w.im - (g.im * x.re - g.re * x.im), limit),
+    }
+}
+
+// A step of one half's lanes; whether some lane is not finite. By an index: it is a place in three structs, from two places on. No `any` for the flag: it leaves
+// early.
+#[tactic(auto, using(crate::proofs::HalfLoop::half_none))]
+fn update_half(w: &mut Weights, limit: &[f32; LANES], h: &Window, p: Half, g: C32) -> bool
+    ensures re { Replaced (step_re w.old.re limit.now h.now.re h.now.im p.at p.from g.re g.im) p.from p.lanes w.old.re w.new.re }
+    ensures im { Replaced (step_im w.old.im limit.now h.now.re h.now.im p.at p.from g.re g.im) p.from p.lanes w.old.im w.new.im }
+    ensures value { result ≡ any_of p.lanes (λ i. uneven (step_re w.old.re limit.now h.now.re h.now.im p.at p.from g.re g.im i) (step_im w.old.im limit.now h.now.re h.now.im p.at p.from g.re g.im i)) }
 {
     let mut bad = false;
-    for i in 0..lanes {
-        let k = from + i;
-        let a = h.re[at + i];
-        let b = h.im[at + i];
-        let r = kept(w.re[k] - (gr * a + gi * b), limit[k]);
-        let m = kept(w.im[k] - (gi * a - gr * b), limit[k]);
-        w.re[k] = r;
-        w.im[k] = m;
-        bad |= apart(r, m);
+    for i in 0..p.lanes {
+        let k = p.from + i;
+        let v = stepped(w.at(k), limit[k], h.at(p.at + i), g);
+        w.put(k, v);
+        bad |= apart(v);
     }
     bad
 }
 
 // Whether a lane that is no padding is not finite.
 #[tactic(auto, unfolding(crate::specs::Steps::broken_at))]
-fn broken_at(r: f32, m: f32, limit: f32) -> bool
-    ensures { result ≡ broken_at r m limit }
+fn broken_at(v: C32, limit: f32) -> bool
+    ensures { result ≡ broken_at v.re v.im limit }
 {
-    (limit < 1.0) & apart(r, m)
+    (limit < 1.0) & apart(v)
 }
 
 // Whether one of the weights is not finite: padding does not count.
-fn broken(w: &Weights, limit: &[f32; 144]) -> bool
+#[tactic(auto, using(crate::proofs::Loops::any_none, crate::proofs::Loops::any_more))]
+fn broken(w: &Weights, limit: &[f32; LANES]) -> bool
     ensures { result ≡ ruined w.now.re w.now.im limit.now }
 {
     let mut bad = false;
-    for k in 0..144 {
-        bad |= broken_at(w.re[k], w.im[k], limit[k]);
+    for (k, l) in limit.iter().enumerate() {
+        bad |= broken_at(w.at(k), *l);
     }
     bad
 }
 
 // +0 for padding, and for each lane where the weights start anew.
+#[tactic(auto, unfolding(crate::specs::Steps::clear_of))]
 fn clear(v: f32, limit: f32, all: bool) -> f32
     ensures { result ≡ clear_of v limit all }
 {
     if all | (limit > 1.0) { 0.0 } else { v }
 }
 
-// Padding back to +0; all lanes where the weights start anew. 144 is a constant here: the compiler unrolls the loop and so aligns the array.
-fn cleared(w: &mut [f32; 144], limit: &[f32; 144], all: bool)
+// Padding back to +0; all lanes where the weights start anew. Their number is a constant here: the compiler unrolls the loop and so aligns the array.
+fn cleared(w: &mut [f32; LANES], limit: &[f32; LANES], all: bool)
     ensures { Replaced (clear_in w.old limit.now all 0) 0 144 w.old w.new }
 {
-    for k in 0..144 {
-        w[k] = clear(w[k], limit[k], all);
+    for (k, v) in w.iter_mut().enumerate() {
+        *v = clear(*v, limit[k], all);
     }
 }
 
 // After a lane that is not finite: the start weights if it is a weight's.
-fn settle(w: &mut Weights, limit: &[f32; 144], centre: usize)
+#[tactic(auto, using(crate::proofs::Adaptation::settled), unfolding(crate::specs::Settled::start_in))]
+fn settle(w: &mut Weights, limit: &[f32; LANES], centre: usize)
     requires { centre < 144 }
     ensures { Settled w.old.re w.old.im limit.now centre w.new.re w.new.im }
 {
@@ -104,27 +106,25 @@ fn settle(w: &mut Weights, limit: &[f32; 144], centre: usize)
     }
 }
 
-// The weights' step by the update u: both halves of the lanes, whose windows begin at `at` and `bt`, and the start weights where a weight is not finite.
+// The weights' step by the update u: both halves of the lanes, and the start weights where a weight is not finite.
+#[tactic(auto, using(crate::proofs::Adaptation::adapt_hold))]
 pub fn update_split(
     u: Update,
     w: &mut Weights,
-    limit: &[f32; 144],
+    limit: &[f32; LANES],
     h: &Window,
-    at: usize,
-    lanes: usize,
-    bt: usize,
-    more: usize,
+    p: Halves,
     centre: usize,
 )
-    requires lanes_bound { (at + lanes ≤ 288) × (lanes ≤ 72) }
-    requires more_bound { (bt + more ≤ 288) × ((more ≤ 72) × (centre < 72)) }
-    ensures { Adapts u w.old.re w.old.im limit.now h.now.re h.now.im at lanes bt more centre w.new.re w.new.im }
+    requires { centre < 72 }
+    ensures { Adapts u w.old.re w.old.im limit.now h.now.re h.now.im p.forth.at p.forth.lanes p.fed.at p.fed.lanes centre w.new.re w.new.im }
 {
-    let Update::Step(gr, gi) = u else {
+    let Update::Step(re, im) = u else {
         return;
     };
-    let b1 = update_half(w, limit, h, at, 0, lanes, gr, gi);
-    let b2 = update_half(w, limit, h, bt, 72, more, gr, gi);
+    let g = C32 { re, im };
+    let b1 = update_half(w, limit, h, p.forth, g);
+    let b2 = update_half(w, limit, h, p.fed, g);
     if b1 | b2 {
         settle(w, limit, centre);
     }
