@@ -1,7 +1,6 @@
 -- The start of a run: `enter` keeps the representation and stores the samples, the powers made ahead are the windows'. Assumes nothing.
 use Prim.Native.Nat.{ℕ, ◌+◌, ◌-◌, ◌/◌, ◌<◌, ◌≤◌}
-use mathlib.Core.Path.{◌≡◌, refl, ◌∙◌}
-use mathlib.Core.Bool.{Bool, true, false, cond, ◌&&◌}
+use mathlib.Core.Path.{◌≡◌, ◌∙◌}
 use mathlib.Core.List.{List}
 use native.Mathlib.Omega.{arith}
 use native.Mathlib.Decide.{dec_lt}
@@ -9,25 +8,17 @@ use lib.ListN.{length, get_or}
 use lib.Dec.{T}
 use lib.Ieee.{Float, nan}
 use lib.Ieee.Scale.{finite}
-use Rattle.types.specs.Bits.{zero32}
-use Rattle.definition.specs.Floats.{complex, zero_c, finite_c}
+use Rattle.definition.specs.Floats.{complex}
 use Rattle.definition.specs.Slices.{re_at, im_at, power}
-use Rattle.definition.specs.Sample.{Equalizer, sanitized}
+use Rattle.definition.specs.Sample.{Equalizer}
 use Rattle.definition_laws.proofs.Kept.{sanitized_finite}
 use Rattle.lanes.specs.Between.{Between}
-use Rattle.lanes_prepare.specs.Entered.{Entered, held_of}
+use Rattle.lanes_prepare.specs.Entered.{Entered}
+use Rattle.lanes_prepare.proofs.Entry.{held_is}
 use Rattle.lanes.specs.Powers.{square_at, chain_of}
 use Rattle.lanes.specs.Holds.{Lies, Calm, Holds, Put}
 use Rattle.lanes.specs.Arrays.{arrays}
 use Rattle.lanes.proofs.Powers.{squares_lie, ahead_power}
-
-held_go : (b : Bool) (a c : Float) → (cond b a zero32 ≡ (cond b (complex a c) zero_c).re) × (cond b c zero32 ≡ (cond b (complex a c) zero_c).im)
-held_go true a c = (refl, refl)
-held_go false a c = (refl, refl)
-
-held_is : (a c : Float) → (held_of a (finite a && finite c) ≡ (sanitized (complex a c)).re) × (held_of c (finite a && finite c) ≡ (sanitized (complex a c)).im)
-unfolding held_of sanitized finite_c
-held_is a c = held_go (finite a && finite c) a c
 
 module _ (x xr xi xr' xi' : List Float) (e : Entered x xr xi xr' xi') (most : length x ≤ 128) where
   -- sample k of a run stands at 63 − k

@@ -3,25 +3,26 @@
 
 ghost use Rattle.std.specs.Prelude.{◌≡◌, ◌+◌, ◌-◌, ◌≤◌, ◌%◌, length, get_or};
 ghost use Rattle.std.specs.Float.{nan};
-ghost use Rattle.definition.specs.Sample.{step_size};
+ghost use Rattle.definition.specs.Sample.{sanitized, step_size};
 ghost use Rattle.lanes.specs.Powers.{square_at, chain_of};
 ghost use Rattle.lanes.specs.Between.{Between};
-ghost use Rattle.lanes_prepare.specs.Entered.{Entered, held_of};
+ghost use Rattle.lanes_prepare.specs.Entered.{Entered};
 ghost use Rattle.dot.specs.Added.{Added};
 ghost use Rattle.lanes_prepare.specs.Clock.{cma_left, StepSizes};
 
-use lanes::{RUN, Window};
-use types::{EqMode, EqParams, EqualizeState};
+use lanes::{PLACES, RUN, Window};
+use types::{C32, EqMode, EqParams, EqualizeState};
 
-// The part of a sample that goes in: +0 where the sample is not finite.
-#[tactic(auto, unfolding(crate::specs::Entered::held_of))]
-fn held(a: f32, ok: bool) -> f32
-    ensures { result ≡ held_of a ok }
+// What goes in of a sample: zero where it is not finite.
+#[tactic(auto, unfolding(definition::specs::Sample::sanitized))]
+fn sanitize(v: C32) -> C32
+    ensures { result ≡ sanitized v }
 {
-    if ok { a } else { 0.0 }
+    if numeric::finite_c(v) { v } else { C32::ZERO }
 }
 
-// The powers of a run's forward windows and their step sizes, made ahead: the sample at `at` has those at `at`.
+// The powers of a run's forward windows and their step sizes, made ahead: the sample at `at` has those at `at`. Apart, since the powers are summed and the
+// sizes divided sixteen and more at a time.
 #[derive(Clone, Copy)]
 pub struct Ahead {
     pub power: [f32; RUN],
@@ -35,22 +36,19 @@ impl Ahead {
     };
 }
 
-// The samples of a run into the window, newest first; a sample that is not finite as zero. By an index: it is a place in three arrays.
+// The samples of a run into the window, newest first; a sample that is not finite as zero. By an index: behind a `zip` with `iter_mut().rev()` a proof knows no
+// element.
 pub fn enter(h: &mut Window, input: &[f32])
     requires { length input.now ≤ 128 }
     ensures entered { Entered input.now h.old.re h.old.im h.new.re h.new.im }
     ensures squares { h.new.squares ≡ h.old.squares }
 {
     for k in 0..input.len() / 2 {
-        let a = input[2 * k];
-        let b = input[2 * k + 1];
-        let ok = numeric::is_finite(a) & numeric::is_finite(b);
-        h.re[RUN - 1 - k] = held(a, ok);
-        h.im[RUN - 1 - k] = held(b, ok);
+        h.put(RUN - 1 - k, sanitize(complex::at(input, k)));
     }
 }
 
-// re² + im² of the window's values.
+// re² + im² of the window's values. By an index: it is a place in the three arrays of one struct.
 pub fn squares(h: &mut Window, from: usize, to: usize)
     requires { (from ≤ to) × (to ≤ 288) }
     ensures squared { Between (square_at h.old.re h.old.im) from to h.old.squares h.new.squares }
@@ -58,22 +56,22 @@ pub fn squares(h: &mut Window, from: usize, to: usize)
     ensures im { h.new.im ≡ h.old.im }
 {
     for j in from..to {
-        h.squares[j] = h.re[j] * h.re[j] + h.im[j] * h.im[j];
+        h.squares[j] = complex::norm(h.at(j));
     }
 }
 
 // Adds N values to N sums.
-fn add<const N: usize>(acc: &mut [f32; N], q: &[f32; 288], from: usize)
+fn add<const N: usize>(acc: &mut [f32; N], q: &[f32; PLACES], from: usize)
     requires { from + N ≤ 288 }
     ensures { Added (λ i. get_or q.now i nan) from N acc.old acc.new }
 {
-    for k in 0..N {
-        acc[k] = acc[k] + q[from + k];
+    for (k, s) in acc.iter_mut().enumerate() {
+        *s += q[from + k];
     }
 }
 
-// The powers of sixteen windows side by side.
-fn tile(power: &mut [f32; RUN], q: &[f32; 288], j: usize, n: usize)
+// The powers of sixteen windows side by side. By an index: turn i adds sixteen squares from j + i on, and these parts overlap.
+fn tile(power: &mut [f32; RUN], q: &[f32; PLACES], j: usize, n: usize)
     requires { (j ≤ 48) × (n ≤ 64) }
     ensures { Between (λ i. chain_of q.now i n) j (j + 16) power.old power.new }
 {
@@ -85,7 +83,7 @@ fn tile(power: &mut [f32; RUN], q: &[f32; 288], j: usize, n: usize)
 }
 
 // The powers of the windows from `from` on.
-pub fn powers(power: &mut [f32; RUN], q: &[f32; 288], from: usize, n: usize)
+pub fn powers(power: &mut [f32; RUN], q: &[f32; PLACES], from: usize, n: usize)
     requires { (n ≤ 64) × ((from ≤ 64) × (from % 16 ≡ 0)) }
     ensures { Between (λ i. chain_of q.now i n) from 64 power.old power.new }
 {
@@ -94,14 +92,14 @@ pub fn powers(power: &mut [f32; RUN], q: &[f32; 288], from: usize, n: usize)
     }
 }
 
-// mu / (P + NLMS_EPS) for the windows from .. to.
-#[tactic(auto, using(lanes::proofs::Between::between_more), unfolding(definition::specs::Sample::step_size))]
+// The step sizes by mu for the windows from .. to. By an index: it is a place in two arrays, and behind a `zip` of `iter_mut` a proof knows no element.
+#[tactic(auto, using(lanes::proofs::Between::between_more))]
 fn divide(steps: &mut [f32; RUN], power: &[f32; RUN], from: usize, to: usize, mu: f32)
     requires { (from ≤ to) × (to ≤ 64) }
     ensures { Between (λ i. step_size mu (get_or power.now i nan)) from to steps.old steps.new }
 {
     for j in from..to {
-        steps[j] = mu / (power[j] + EqualizeState::NLMS_EPS);
+        steps[j] = steps::step_size(mu, power[j]);
     }
 }
 
