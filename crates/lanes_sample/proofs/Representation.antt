@@ -52,41 +52,28 @@ set_calm : (x : List Float) (i : ℕ) (v : Float) (k : ℕ) → i < length x →
 set_calm x i v k l f g (yes e) = rw (e, get_or-set_same x i v nan l) f
 set_calm x i v k l f g (no d) = rw (get_or-set_other x i k v nan d) g
 
+-- of a part, or of the squares: v at at + 152, and above it what stood from at + 153 on
+fed : (l : List Float) (at m : ℕ) (v : Float) (x y : ℕ → Float) → at ≤ 63 → length l ≡ 288 → ((j : ℕ) → j < m → get_or l (at + 153 + j) nan ≡ x j)
+    → (0 < m → y 0 ≡ v) → ((j : ℕ) → suc j < m → y (suc j) ≡ x j) → (j : ℕ) → j < m → get_or (set l (at + 152) v) (at + 152 + j) nan ≡ y j
+fed l at m v x y low long old first more zero h =
+    let e : at + 152 + 0 ≡ at + 152 = omega arith in
+    rw e (get_or-set_same l (at + 152) v nan (omega arith) ∙ sym (first h))
+fed l at m v x y low long old first more (suc j) h =
+    let e : at + 152 + suc j ≡ at + 153 + j = omega arith in
+    rw e (get_or-set_other l (at + 152) (at + 153 + j) v nan (λ (z : at + 153 + j ≡ at + 152). omega arith) ∙ old j (omega arith) ∙ sym (more j h))
+
 module _ (n m at : ℕ) (xr xi q h : List Float) (v : C32) (w : Window n m at xr xi h) (low : at ≤ 63) (most : n ≤ 63)
     (lr : length xr ≡ 288) (li : length xi ≡ 288) (lq : length q ≡ 288) (fr : T (finite v.re)) (fi : T (finite v.im)) where
-  fed_re : (j : ℕ) → j < m → get_or (set xr (at + 152) v.re) (at + 152 + j) nan ≡ re_at (take (2 * n) h ++ shifted m v (drop (2 * n) h)) (n + j)
-  fed_re zero l =
-      let e : at + 152 + 0 ≡ at + 152 = omega arith in
-      rw e (get_or-set_same xr (at + 152) v.re nan (omega arith) ∙ sym (after-first-re n m v h w.taps l))
-  fed_re (suc j) l =
-      let e : at + 152 + suc j ≡ at + 153 + j = omega arith in
-      rw e (get_or-set_other xr (at + 152) (at + 153 + j) v.re nan (λ (z : at + 153 + j ≡ at + 152). omega arith) ∙ w.back.re_is j (omega arith) ∙ sym (after-more-re n m v h w.taps j l))
-
-  fed_im : (j : ℕ) → j < m → get_or (set xi (at + 152) v.im) (at + 152 + j) nan ≡ im_at (take (2 * n) h ++ shifted m v (drop (2 * n) h)) (n + j)
-  fed_im zero l =
-      let e : at + 152 + 0 ≡ at + 152 = omega arith in
-      rw e (get_or-set_same xi (at + 152) v.im nan (omega arith) ∙ sym (after-first-im n m v h w.taps l))
-  fed_im (suc j) l =
-      let e : at + 152 + suc j ≡ at + 153 + j = omega arith in
-      rw e (get_or-set_other xi (at + 152) (at + 153 + j) v.im nan (λ (z : at + 153 + j ≡ at + 152). omega arith) ∙ w.back.im_is j (omega arith) ∙ sym (after-more-im n m v h w.taps j l))
-
-  fed-square : (s : Squares q (at + 153) h n m) (j : ℕ) → j < m → get_or (set q (at + 152) (norm v)) (at + 152 + j) nan
-      ≡ norm (complex (re_at (take (2 * n) h ++ shifted m v (drop (2 * n) h)) (n + j)) (im_at (take (2 * n) h ++ shifted m v (drop (2 * n) h)) (n + j)))
-  fed-square s zero l =
-      let e : at + 152 + 0 ≡ at + 152 = omega arith in
-      rw e (get_or-set_same q (at + 152) (norm v) nan (omega arith) ∙ rw (after-first-re n m v h w.taps l, after-first-im n m v h w.taps l))
-  fed-square s (suc j) l =
-      let e : at + 152 + suc j ≡ at + 153 + j = omega arith in
-      rw e (get_or-set_other q (at + 152) (at + 153 + j) (norm v) nan (λ (z : at + 153 + j ≡ at + 152). omega arith) ∙ s.is j (omega arith)
-      ∙ rw (after-more-re n m v h w.taps j l, after-more-im n m v h w.taps j l))
-
   pub past_next : Past n m at (set xr (at + 152) v.re) (set xi (at + 152) v.im) (take (2 * n) h ++ shifted m v (drop (2 * n) h))
   past_next = record {
     forth = record {
       re_is = λ j l. get_or-set_other xr (at + 152) (at + j) v.re nan (λ (z : at + j ≡ at + 152). omega arith) ∙ w.forth.re_is j l ∙ (let e : 0 + j ≡ j = omega arith in rw e (sym (after-head-re n m v h w.taps j l)));
       im_is = λ j l. get_or-set_other xi (at + 152) (at + j) v.im nan (λ (z : at + j ≡ at + 152). omega arith) ∙ w.forth.im_is j l ∙ (let e : 0 + j ≡ j = omega arith in rw e (sym (after-head-im n m v h w.taps j l)));
     };
-    back = record { re_is = fed_re; im_is = fed_im };
+    back = record {
+      re_is = fed xr at m v.re (λ j. re_at h (n + j)) (λ j. re_at (take (2 * n) h ++ shifted m v (drop (2 * n) h)) (n + j)) low lr w.back.re_is (after-first-re n m v h w.taps) (after-more-re n m v h w.taps);
+      im_is = fed xi at m v.im (λ j. im_at h (n + j)) (λ j. im_at (take (2 * n) h ++ shifted m v (drop (2 * n) h)) (n + j)) low li w.back.im_is (after-first-im n m v h w.taps) (after-more-im n m v h w.taps);
+    };
     calm = record {
       re_fine = λ k l. set_calm xr (at + 152) v.re k (omega arith) fr (w.calm.re_fine k l) (ℕ_discrete k (at + 152));
       im_fine = λ k l. set_calm xi (at + 152) v.im k (omega arith) fi (w.calm.im_fine k l) (ℕ_discrete k (at + 152));
@@ -95,7 +82,10 @@ module _ (n m at : ℕ) (xr xi q h : List Float) (v : C32) (w : Window n m at xr
   }
 
   pub squares-next : Squares q (at + 153) h n m → Squares (set q (at + 152) (norm v)) (at + 152) (take (2 * n) h ++ shifted m v (drop (2 * n) h)) n m
-  squares-next s = record { is = fed-square s }
+  squares-next s = record {
+    is = fed q at m (norm v) (λ j. norm (complex (re_at h (n + j)) (im_at h (n + j)))) (λ j. norm (complex (re_at (take (2 * n) h ++ shifted m v (drop (2 * n) h)) (n + j)) (im_at (take (2 * n) h ++ shifted m v (drop (2 * n) h)) (n + j)))) low lq s.is
+        (λ l. rw (after-first-re n m v h w.taps l, after-first-im n m v h w.taps l)) (λ j l. rw (after-more-re n m v h w.taps j l, after-more-im n m v h w.taps j l));
+  }
 
 -- the squares of the feedback part, after step 1
 pub squares_in : (n m at : ℕ) (a : Arrays) (q : Equalizer) (x : C32) → Holds n m (at + 1) a q → Put at x a.xr a.xi → Squares a.q (at + 153) (step1 n x q.window) n m

@@ -9,7 +9,7 @@ use lib.Ieee.{Float, nan}
 use Rattle.types.specs.declared.C32.{C32}
 use Rattle.definition.specs.Slices.{re_at, im_at, shifted}
 use Rattle.definition_laws.proofs.Every.{length_shifted}
-use Rattle.lanes.specs.Holds.{Lies, Window, Past}
+use Rattle.lanes.specs.Holds.{Window, Past}
 
 -- ---- parts of `shifted`
 module _ (n : ℕ) (a : C32) (x : List Float) (long : 2 * n ≤ length x) where
@@ -45,28 +45,21 @@ module _ (n : ℕ) (a : C32) (x : List Float) (long : 2 * n ≤ length x) where
   pub shifted-high-im : (i : ℕ) → n ≤ i → im_at (shifted n a x) i ≡ im_at x i
   shifted-high-im i h = high-at (2 * i + 1) (omega arith)
 
--- ---- lanes that get one number in front
-module _ (re im : List Float) (p : ℕ) (a : C32) (x : List Float) (base count : ℕ) (y : List Float) (c : ℕ) (r : get_or re p nan ≡ a.re) (i : get_or im p nan ≡ a.im)
-    (old : Lies re im (p + 1) x base count) (rest : c ≤ suc count)
-    (first-re : 0 < c → re_at y 0 ≡ a.re) (first-im : 0 < c → im_at y 0 ≡ a.im)
-    (more-re : (j : ℕ) → suc j < c → re_at y (suc j) ≡ re_at x (base + j)) (more-im : (j : ℕ) → suc j < c → im_at y (suc j) ≡ im_at x (base + j)) where
-  front-re : (j : ℕ) → j < c → get_or re (p + j) nan ≡ re_at y j
-  front-re zero h = let e : p + 0 ≡ p = omega arith in rw e (r ∙ sym (first-re h))
-  front-re (suc j) h = let e : p + suc j ≡ p + 1 + j = omega arith in rw e (old.re_is j (omega arith) ∙ sym (more-re j h))
-
-  front-im : (j : ℕ) → j < c → get_or im (p + j) nan ≡ im_at y j
-  front-im zero h = let e : p + 0 ≡ p = omega arith in rw e (i ∙ sym (first-im h))
-  front-im (suc j) h = let e : p + suc j ≡ p + 1 + j = omega arith in rw e (old.im_is j (omega arith) ∙ sym (more-im j h))
+-- ---- lanes of one part that get the number v in front: y has v first, then x from base on
+module _ (l : List Float) (p : ℕ) (v : Float) (x y : ℕ → Float) (base count c : ℕ) (r : get_or l p nan ≡ v)
+    (old : (j : ℕ) → j < count → get_or l (p + 1 + j) nan ≡ x (base + j)) (rest : c ≤ suc count)
+    (first : 0 < c → y 0 ≡ v) (more : (j : ℕ) → suc j < c → y (suc j) ≡ x (base + j)) where
+  front : (j : ℕ) → j < c → get_or l (p + j) nan ≡ y j
+  front zero h = let e : p + 0 ≡ p = omega arith in rw e (r ∙ sym (first h))
+  front (suc j) h = let e : p + suc j ≡ p + 1 + j = omega arith in rw e (old j (omega arith) ∙ sym (more j h))
 
 -- a sample, sanitized at `at`, makes the window of that place
 pub window_in : (n m at : ℕ) (xr xi x : List Float) (a : C32) → Past n m (at + 1) xr xi x → get_or xr at nan ≡ a.re → get_or xi at nan ≡ a.im
     → Window n m at xr xi (shifted n a x)
 window_in n m at xr xi x a s r i =
     let long : 2 * n ≤ length x = omega (arith, s.taps) in
-    let fr = front-re xr xi at a x 0 n (shifted n a x) n r i s.forth (omega arith) (shifted-re n a x long) (shifted-im n a x long)
-    (λ j h. let e : 0 + j ≡ j = omega arith in rw e (shifted-more-re n a x long j h)) (λ j h. let e : 0 + j ≡ j = omega arith in rw e (shifted-more-im n a x long j h)) in
-    let fi = front-im xr xi at a x 0 n (shifted n a x) n r i s.forth (omega arith) (shifted-re n a x long) (shifted-im n a x long)
-    (λ j h. let e : 0 + j ≡ j = omega arith in rw e (shifted-more-re n a x long j h)) (λ j h. let e : 0 + j ≡ j = omega arith in rw e (shifted-more-im n a x long j h)) in
+    let fr = front xr at a.re (re_at x) (re_at (shifted n a x)) 0 n n r s.forth.re_is (omega arith) (shifted-re n a x long) (λ j h. let e : 0 + j ≡ j = omega arith in rw e (shifted-more-re n a x long j h)) in
+    let fi = front xi at a.im (im_at x) (im_at (shifted n a x)) 0 n n i s.forth.im_is (omega arith) (shifted-im n a x long) (λ j h. let e : 0 + j ≡ j = omega arith in rw e (shifted-more-im n a x long j h)) in
     let p : at + 153 ≡ at + 1 + 152 = omega arith in
     record {
       forth = record { re_is = λ j h. let e : 0 + j ≡ j = omega arith in rw e (fr j h); im_is = λ j h. let e : 0 + j ≡ j = omega arith in rw e (fi j h) };

@@ -8,8 +8,7 @@ ghost use Rattle.lanes.specs.Arrays.{arrays_of};
 ghost use Rattle.lanes_sample.specs.Measures.{Measures};
 
 use dot::{Im, Re};
-use lanes::{Shape, Weights, Window};
-use lanes_filter::Half;
+use lanes::{PLACES, Shape, Weights, Window};
 use types::C32;
 
 // The filter sum and the window's power.
@@ -20,7 +19,7 @@ pub struct Measured {
 }
 
 // forward, then q[from], q[from + 1] .. added in order.
-fn chain(q: &[f32; 288], from: usize, count: usize, forward: f32) -> f32
+fn chain(q: &[f32; PLACES], from: usize, count: usize, forward: f32) -> f32
     requires { from + count ≤ 288 }
     ensures { result ≡ fold (λ p v. p +f v) forward (slice_range q.now from (from + count)) }
 {
@@ -32,22 +31,13 @@ pub fn measure(g: Shape, at: usize, w: &Weights, h: &Window, forward: f32) -> Me
     requires { at ≤ 63 }
     ensures { Measures g.m g.lanes g.more g.front at (arrays_of w.now h.now) forward result.y result.power }
 {
-    let back = at + 153;
-    let forth = Half {
-        at,
-        from: 0,
-        lanes: g.lanes,
-    };
-    let fed = Half {
-        at: back - g.front,
-        from: 72,
-        lanes: g.more,
-    };
+    let p = g.sums(at);
+    let back = at + (Window::BACK + 1);
     let half = g.m / 2;
     let p1 = chain(&h.squares, back, half, forward);
-    let re = lanes_filter::dot_split::<Re>(h, w, forth, fed);
+    let re = lanes_filter::dot_split::<Re>(h, w, p.forth, p.fed);
     let p2 = chain(&h.squares, back + half, g.m - half, p1);
-    let im = lanes_filter::dot_split::<Im>(h, w, forth, fed);
+    let im = lanes_filter::dot_split::<Im>(h, w, p.forth, p.fed);
     Measured {
         y: C32 { re, im },
         power: p2,
@@ -61,7 +51,6 @@ pub fn feed(h: &mut Window, j: usize, v: C32)
     ensures im { h.new.im ≡ set h.old.im j v.im }
     ensures squares { h.new.squares ≡ set h.old.squares j (norm v) }
 {
-    h.re[j] = v.re;
-    h.im[j] = v.im;
-    h.squares[j] = v.re * v.re + v.im * v.im;
+    h.put(j, v);
+    h.squares[j] = complex::norm(v);
 }
