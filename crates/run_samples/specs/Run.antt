@@ -14,6 +14,10 @@ use Rattle.lanes_prepare.specs.Clock.{StepSizes}
 use Rattle.lanes.specs.declared.Shape.{Shape}
 use Rattle.run_samples.specs.Sample.{Setting}
 
+-- input, output and marks of the same samples
+abbrev pub Lengths : List Float → List Float → List ℕ → Type 0
+Lengths xs ys ms = (length xs ≡ 2 * length ms) × (length ys ≡ 2 * length ms)
+
 -- the powers ps of the windows that lie in the arrays, from the place `from` on
 pub record Powered (n from : ℕ) (xr xi ps : List Float) : Type 0 where
   pub is : (at : ℕ) (l : List Float) → from ≤ at → at < 64 → Lies xr xi at l 0 n → get_or ps at nan ≡ power l n

@@ -5,11 +5,11 @@ use Rattle.run_samples.proofs.sample.Goals as goal
 pub advance-state-requires : goal.advance-state-requires
 advance-state-requires c =
     let asked = c.requires in
-    track_r4 _ _ _ asked.s_value c.on.ensures
+    track_r4 _ _ _ asked c.on.ensures
 
 pub returns : goal.returns
 returns c =
     let at-feed = c.feed in
     let at_take = c.take-r in
     let asked = c.requires in
-    sampled _ _ _ _ _ _ _ _ _ _ _ _ _ _ _ _ _ _ _ _ asked.at_bound asked.s_value at_take.ensures at-feed.ensures.re at-feed.ensures.im at-feed.ensures.squares c.on.ensures c.advance-state.ensures
+    sampled _ _ _ _ _ _ _ _ _ _ _ _ _ _ _ _ _ _ _ _ c.args.e.within asked at_take.ensures at-feed.ensures.re at-feed.ensures.im at-feed.ensures.squares c.on.ensures c.advance-state.ensures
