@@ -1,4 +1,4 @@
-// The quick path and the joint path as one code: a block of samples in runs of 64, the caller's slices into the arrays, run after run, and back.
+// The quick path and the joint path as one code: a block of samples in runs, the caller's slices into the arrays, run after run, and back.
 #![tactic(auto)]
 
 ghost use Rattle.std.specs.Prelude.{◌≡◌, true, ◌+◌, ◌*◌, ◌≤◌, length};
@@ -8,6 +8,7 @@ ghost use Rattle.definition.specs.Rules.{rule_r4};
 ghost use Rattle.definition.specs.Run.{run_def};
 ghost use Rattle.lanes.specs.Arrays.{arrays_of};
 ghost use Rattle.run_samples.specs.Sample.{Formed};
+ghost use Rattle.run_samples.specs.Run.{Lengths};
 ghost use Rattle.run_block.specs.Block.{AllRuns, Empty, Loads, Stores, Asked};
 
 use lanes::{RUN, Shape, Weights, Window};
@@ -15,7 +16,7 @@ use lanes_prepare::Ahead;
 use run_samples::Call;
 use types::EqualizeState;
 
-// All runs of a block.
+// All runs of a block. By a place: behind `chunks_mut` a proof knows no element of output and marks.
 fn linear_runs(
     state: EqualizeState,
     call: &Call,
@@ -25,7 +26,7 @@ fn linear_runs(
     output: &mut [f32],
     marks: &mut [u8],
 ) -> EqualizeState
-    requires input_len { (length input.now ≡ 2 * length marks.old) × (length output.old ≡ 2 * length marks.old) }
+    requires input_len { Lengths input.now output.old marks.old }
     requires state_value { rule_r4 state ≡ true }
     ensures { AllRuns state call.now.shape call.now.n call.now.limit (arrays_of w.old h.old) input.now (arrays_of w.new h.new) output.new marks.new result }
 {
@@ -64,13 +65,15 @@ fn load_linear(weights: &[f32], window: &[f32], n: usize, m: usize, w: &mut Weig
     ensures { Loads n m weights.now window.now (arrays_of w.new h.new) }
 {
     lanes_load::split(&mut w.re, &mut w.im, 0, weights, 0, n);
-    lanes_load::split(&mut w.re, &mut w.im, 72 + n % 8, weights, n, m);
-    lanes_load::split(&mut h.re, &mut h.im, 64, window, 0, n);
-    lanes_load::split(&mut h.re, &mut h.im, 216, window, n, m);
-    lanes_prepare::squares(h, 216, 216 + m);
+    lanes_load::split(&mut w.re, &mut w.im, Weights::BACK + n % 8, weights, n, m);
+    lanes_load::split(&mut h.re, &mut h.im, RUN, window, 0, n);
+    let back = RUN + Window::BACK;
+    lanes_load::split(&mut h.re, &mut h.im, back, window, n, m);
+    lanes_prepare::squares(h, back, back + m);
 }
 
 // And back.
+#[tactic(auto, using(crate::proofs::Call::stores))]
 fn store_linear(
     weights: &mut [f32],
     window: &mut [f32],
@@ -84,9 +87,9 @@ fn store_linear(
     ensures { Stores n m w.now.re w.now.im h.now.re h.now.im weights.old window.old weights.new window.new }
 {
     lanes_load::joined(weights, &w.re, &w.im, 0, 0, n);
-    lanes_load::joined(weights, &w.re, &w.im, 72 + n % 8, n, m);
-    lanes_load::joined(window, &h.re, &h.im, 64, 0, n);
-    lanes_load::joined(window, &h.re, &h.im, 216, n, m);
+    lanes_load::joined(weights, &w.re, &w.im, Weights::BACK + n % 8, n, m);
+    lanes_load::joined(window, &h.re, &h.im, RUN, 0, n);
+    lanes_load::joined(window, &h.re, &h.im, RUN + Window::BACK, n, m);
 }
 
 // A block by n forward and m feedback taps: arrays, all runs, and back.

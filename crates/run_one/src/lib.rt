@@ -4,6 +4,7 @@
 ghost use Rattle.std.specs.Prelude.{◌≡◌, true, ◌+◌, ◌-◌, ◌*◌, ◌≤◌, length};
 ghost use Rattle.definition.specs.Rules.{rule_r4};
 ghost use Rattle.lanes.specs.Arrays.{arrays_of};
+ghost use Rattle.run_samples.specs.Run.{Lengths};
 ghost use Rattle.run_one.specs.WholeRun.{Prepared, Finished, WholeRun};
 
 use lanes::{RUN, Weights, Window};
@@ -32,12 +33,14 @@ fn finish_run(h: &mut Window, len: usize, n: usize, m: usize)
     let first = RUN - len;
     lanes_load::moved(&mut h.re, first, RUN, n);
     lanes_load::moved(&mut h.im, first, RUN, n);
-    lanes_load::moved(&mut h.re, first + 152, 216, m);
-    lanes_load::moved(&mut h.im, first + 152, 216, m);
-    lanes_load::moved(&mut h.squares, first + 152, 216, m);
+    let back = first + Window::BACK;
+    let home = RUN + Window::BACK;
+    lanes_load::moved(&mut h.re, back, home, m);
+    lanes_load::moved(&mut h.im, back, home, m);
+    lanes_load::moved(&mut h.squares, back, home, m);
 }
 
-// One run: the samples i .. e, at most 64.
+// One run: the samples i .. e, at most RUN.
 pub fn run(
     state: EqualizeState,
     call: &Call,
@@ -50,7 +53,7 @@ pub fn run(
     i: usize,
     e: usize,
 ) -> EqualizeState
-    requires input_len { (length input.now ≡ 2 * length marks.old) × (length output.old ≡ 2 * length marks.old) }
+    requires input_len { Lengths input.now output.old marks.old }
     requires i_le_e { (i ≤ e) × ((e ≤ i + 64) × (e ≤ length marks.old)) }
     requires state_value { rule_r4 state ≡ true }
     ensures { WholeRun state call.now.shape call.now.n call.now.limit (arrays_of w.old h.old) input.now output.old marks.old i e
