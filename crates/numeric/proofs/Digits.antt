@@ -86,8 +86,8 @@ module _ (p : ℕ) (P : p ≤ 0x7f80_0000) where
   pub plain_ok : T (not (nan_bits binary32 p))
   plain_ok = no_nan p rest_plain
 
-  pub signed-ok : T (not (nan_bits binary32 (bit_or p (2 ^ 31))))
-  signed-ok = subst (λ (n : ℕ). T (not (nan_bits binary32 n))) (sym or_is) (no_nan (2 ^ 31 + p) rest-signed)
+  pub signed_ok : T (not (nan_bits binary32 (bit_or p (2 ^ 31))))
+  signed_ok = subst (λ (n : ℕ). T (not (nan_bits binary32 n))) (sym or_is) (no_nan (2 ^ 31 + p) rest-signed)
 
   pub signed-fits : bit_or p (2 ^ 31) < 2 ^ 32
   signed-fits = subst (λ (n : ℕ). n < 2 ^ 32) (sym or_is) go

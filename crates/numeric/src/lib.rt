@@ -14,6 +14,7 @@ use types::C32;
 pub const TINY: f32 = 1e-30;
 
 // Whether x is neither a NaN nor an infinity.
+#[tactic(auto, using(crate::proofs::Leaves::is_finite_lem))]
 pub fn is_finite(x: f32) -> bool
     ensures { result ≡ finite x }
 {
@@ -21,6 +22,7 @@ pub fn is_finite(x: f32) -> bool
 }
 
 // Whether both parts are finite.
+#[tactic(auto, unfolding(definition::specs::Floats::finite_c))]
 pub fn finite_c(v: C32) -> bool
     ensures { result ≡ finite_c v }
 {
@@ -28,6 +30,7 @@ pub fn finite_c(v: C32) -> bool
 }
 
 // +0 where |x| is below 1e-30, else x. A NaN stays a NaN. Two tests: by `x.abs()` a flush and a clip, each feeding the next, took 8.0 ns and not 5.8.
+#[tactic(auto, using(crate::proofs::Leaves::flush_yes, crate::proofs::Leaves::flush_no_r, crate::proofs::Leaves::flush_no_l))]
 pub fn flush_denormal(x: f32) -> f32
     ensures { result ≡ flush x }
 {
@@ -40,6 +43,7 @@ pub fn flush_denormal(x: f32) -> f32
 }
 
 // v held to -limit .. limit. A NaN stays a NaN. Not `clamp`, which asks for a limit that is no NaN and not negative: this holds for any.
+#[tactic(auto, unfolding(definition::specs::Floats::clip))]
 pub fn clip(v: f32, limit: f32) -> f32
     ensures { result ≡ clipDef v limit }
 {
@@ -53,6 +57,7 @@ pub fn clip(v: f32, limit: f32) -> f32
 }
 
 // g / 2^d to the nearest whole number, a tie to the even one.
+#[tactic(auto, using(crate::proofs::Digits::down, crate::proofs::Digits::up, crate::proofs::Digits::tie))]
 fn nearest(g: u64, d: u64) -> u64
     requires { (1 ≤ d) × (d < 64) }
     ensures { result ≡ closest g (2 ^ d) }
@@ -70,6 +75,7 @@ fn nearest(g: u64, d: u64) -> u64
 }
 
 // The f32 with the bits p, and the sign of the f64 with the bits `bits`.
+#[tactic(auto, using(crate::proofs::Digits::plain_ok, crate::proofs::Digits::signed_ok))]
 fn with_sign(bits: u64, p: u64) -> f32
     requires { p ≤ 0x7f80_0000 }
     ensures { result ≡ of_bits binary32 (cond (leb (2 ^ 63) bits) (2 ^ 31) 0 + p) }
