@@ -21,13 +21,14 @@ unfolding cos_sin
 cos_sin_is zero = pair_at_zero
 cos_sin_is (suc p) = rw (ne_eqb (suc p) 0 (λ (e : suc p ≡ 0). omega arith))
 
--- what both functions promise, from what their calls give
-pub pair_of : (p i : ℕ) (f a b : Float) → f ≡ low_part p → a ≡ line_at (p / 1048576) f → i ≡ (p / 1048576 + 3072) % 4096 → b ≡ line_at i f
-    → (record { c = a; s = b } ≡ interp_pair p) × (record { c = a; s = b } ≡ cos_sin p)
-unfolding interp_pair
-pair_of p i f a b low first turned second =
-    let e : record { c = a; s = b } ≡ interp_pair p = rw (first, second, turned, low) in
-    (e, e ∙ cos_sin_is p)
+-- both promises, from what the calls give
+module _ (p i : ℕ) (f a b : Float) (low : f ≡ low_part p) (first : a ≡ line_at (p / 1048576) f) (turned : i ≡ (p / 1048576 + 3072) % 4096) (second : b ≡ line_at i f) where
+  pub pair_is : record { c = a; s = b } ≡ interp_pair p
+  unfolding interp_pair
+  pair_is = rw (first, second, turned, low)
+
+  pub turn_is : record { c = a; s = b } ≡ cos_sin p
+  turn_is = pair_is ∙ cos_sin_is p
 
 -- the low 20 bits, a mask in the code, are exact in f32
 pub low_fits : (p : ℕ) → T (in_float binary32 (pos (bit_and p (2 ^ 20 - 1))))

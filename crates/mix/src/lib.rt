@@ -8,6 +8,7 @@ ghost use Rattle.definition.specs.Phase.{low_part, line_at, interp_pair, cos_sin
 use types::CosSin;
 
 // The low 20 bits of the phase as a part of 1.
+#[tactic(auto, unfolding(definition::specs::Phase::low_part))]
 fn low_part(p: u32) -> f32
     ensures { result ≡ low_part p }
 {
@@ -30,6 +31,7 @@ fn line(a: f32, b: f32, f: f32) -> f32
 }
 
 // The straight line from entry k to the next.
+#[tactic(auto, unfolding(definition::specs::Phase::line_at))]
 fn line_at(k: usize, f: f32) -> f32
     requires { k < 4096 }
     ensures { result ≡ line_at k f }
@@ -39,6 +41,7 @@ fn line_at(k: usize, f: f32) -> f32
 
 // (cos, sin) of the phase p: the fraction is worked out once, and the sine has the index (idx + 3072) mod 4096. These are c and s of step 4 too: at
 // phase 0 the table gives (1, 0).
+#[tactic(auto, using(crate::proofs::Pair::pair_is, crate::proofs::Pair::turn_is))]
 pub fn interp_f32_pair(p: u32) -> CosSin
     ensures value { result ≡ interp_pair p }
     ensures value_2 { result ≡ cos_sin p }
