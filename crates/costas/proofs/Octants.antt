@@ -49,16 +49,10 @@ signs (fin s m e) = signs_of s (m * up e * 1) (0 * 1 * down e) (zero-mul (down e
 abbrev pub second : Bool → Bool → Bool → Bool → Bool → Bool → Bool
 second q1 q2 q3 q4 wide tall = ((q1 || q3) && not wide) || ((q2 || q4) && not tall)
 
-one_le : (b : Bool) → from_bool b ≤ 1
+-- the number of a test
+pub one_le : (b : Bool) → from_bool b ≤ 1
 one_le true = lit≤ tt
 one_le false = lit≤ tt
-
-few : (i j k : ℕ) → i ≤ 1 → j ≤ 1 → k ≤ 1 → i + 2 * j + 4 * k < 8
-few i j k a b c = omega arith
-
--- three numbers from tests
-pub below_eight : (p q r : Bool) (i j k : ℕ) → i ≡ from_bool p → j ≡ from_bool q → k ≡ from_bool r → i + 2 * j + 4 * k < 8
-below_eight p q r i j k a b c = rw (a, b, c) (few _ _ _ (one_le p) (one_le q) (one_le r))
 
 -- the number by the quadrants' tests, and the halves'
 abbrev number : Bool → Bool → Bool → Bool → Bool → Bool → ℕ
@@ -104,10 +98,10 @@ module _ (y : C32) where
   abbrev q4 : Bool
   q4 = le zero32 y.re && lt y.im zero32
 
-  pub octant-is : (a b : Float) (i j k : ℕ) → a ≡ size y.re → b ≡ size y.im → i ≡ from_bool (second q1 q2 q3 q4 (lt b a) (lt a b)) → j ≡ from_bool (q2 || q4) → k ≡ from_bool (q3 || q4)
+  pub octant_is : (a b : Float) (i j k : ℕ) → a ≡ size y.re → b ≡ size y.im → i ≡ from_bool (second q1 q2 q3 q4 (lt b a) (lt a b)) → j ≡ from_bool (q2 || q4) → k ≡ from_bool (q3 || q4)
       → i + 2 * j + 4 * k ≡ octant y
   unfolding octant
-  octant-is a b i j k p q s t u =
+  octant_is a b i j k p q s t u =
       rw (s, t, u, p, q, size_lt y.im y.re, size_lt y.re y.im) (sum_is (signs y.re) (signs y.im) (lt (abs y.im) (abs y.re)) (lt (abs y.re) (abs y.im)))
 
 -- ---- the point

@@ -17,6 +17,7 @@ pub const PHASE_DAMPING: f64 = 0.7071;
 const TAU: f64 = 6.283185307179586;
 
 // The proportional and the integral gain of a loop, in f64, then rounded to f32.
+#[tactic(auto, unfolding(definition::specs::Gains::loop_gains, definition::specs::Gains::gain_kp, definition::specs::Gains::gain_ki, definition::specs::Gains::theta, definition::specs::Gains::divisor))]
 pub fn loop_gains(loop_bw: f64, damping: f64) -> LoopGains
     ensures { result ≡ loop_gains loop_bw damping }
 {
@@ -31,6 +32,7 @@ pub fn loop_gains(loop_bw: f64, damping: f64) -> LoopGains
 }
 
 // x turned back by the angle of t: x exp(-j phi).
+#[tactic(auto, unfolding(definition::specs::Turns::derotated))]
 pub fn derotate(x: C32, t: CosSin) -> C32
     ensures { result ≡ derotated x t }
 {
@@ -41,6 +43,7 @@ pub fn derotate(x: C32, t: CosSin) -> C32
 }
 
 // v turned by the angle of t: v exp(j phi).
+#[tactic(auto, unfolding(definition::specs::Turns::rotated))]
 pub fn rotate(v: C32, t: CosSin) -> C32
     ensures { result ≡ rotated v t }
 {
@@ -58,6 +61,7 @@ fn size(v: f32) -> f32
 }
 
 // The number of the half-open octant, counter-clockwise: the quadrant by the signs, its half by the larger part. No branch.
+#[tactic(auto, using(crate::proofs::Octants::octant_is, crate::proofs::Octants::one_le))]
 fn octant(y: C32) -> usize
     ensures value { result ≡ octantDef y }
     ensures below { result < 8 }
@@ -109,6 +113,7 @@ const POINTS8: [C32; 8] = [
 ];
 
 // The 8-PSK point of y's half-open octant; zero and a NaN give point 0.
+#[tactic(auto, using(crate::proofs::Octants::point_is))]
 pub fn octant_point(y: C32) -> C32
     ensures { result ≡ octant_point y }
 {
@@ -116,6 +121,7 @@ pub fn octant_point(y: C32) -> C32
 }
 
 // The integrator: flushed, and held to -limit .. limit. In a running loop t is neither tiny nor past the limit: one test.
+#[tactic(auto, using(crate::proofs::Sizes::kept))]
 pub fn integrate(t: f32, limit: f32) -> f32
     ensures { result ≡ clip (flush t) limit }
 {
