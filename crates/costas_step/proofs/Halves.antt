@@ -12,8 +12,7 @@ use Rattle.costas_step.specs.HalfUp.{half_up}
 -- ---- the magnitude, and what becomes of it
 
 abbrev pub bit : Bool → ℕ
-bit false = 0
-bit true = 1
+bit s = cond s 1 0
 
 abbrev pub out : Bool → ℕ → ℕ
 out false k = min k (2 ^ 63 - 1) % 2 ^ 32

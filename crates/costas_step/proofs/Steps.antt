@@ -4,8 +4,10 @@ use native.Mathlib.Nat.{mul-mod_left, div-eq_of_lt, pow-succ', div-div-eq-div-mu
 use lib.Pow.{field}
 use lib.Bits.{bit_and, bit_or, and_mask, mask_lt, or_shifted_r}
 use borrow.Author.Tests.{lt-leb}
-use lib.Ieee.{Float, inf, binary32, fits, is_nan, to_bits}
-use lib.Ieee.Bits.{to_bits-lt}
+use lib.Ieee.{Float, nan, inf, fin, binary32, fits, is_nan, to_bits}
+use lib.Ieee.Exact.{HasValue}
+use Rattle.std.specs.Float.{is_sign_negative}
+use mir.Val.{bool_byte as from_bool}
 use Rattle.laws.specs.Fields.{View, view}
 use Rattle.definition.specs.Phase.{phase_step, step_int}
 use Rattle.costas_step.specs.HalfUp.{half_up}
@@ -26,6 +28,15 @@ far n g x h l =
 
 pub whole : (n g x : ℕ) → n ≤ 1 → 118 ≤ x → g * 2 ^ (x - 118) % 2 ^ 32 ≡ half_up n (g * 2 ^ x) (2 ^ 118) % 2 ^ 32
 whole n g x h l = ap (λ (y : ℕ). y % 2 ^ 32) (sym (mag_whole n g x h l))
+
+-- the number of a sign
+pub bit_is : (s : Bool) → from_bool s ≡ bit s
+bit_is true = refl
+bit_is false = refl
+
+pub bit_le : (s : Bool) → bit s ≤ 1
+bit_le true = lit≤ tt
+bit_le false = lit≤ tt
 
 -- below 2 ^ 14: the digits are shifted up by 39, so that one shift down serves every exponent
 module _ (n g x : ℕ) (n1 : n ≤ 1) (lo : 94 ≤ x) (hi : x ≤ 140) (g1 : 1 ≤ g) (g24 : g < 2 ^ 24) where
@@ -133,10 +144,6 @@ zero_out : (s : Bool) → 0 ≡ out s 0
 zero_out true = refl
 zero_out false = refl
 
-bit_le : (s : Bool) → bit s ≤ 1
-bit_le true = lit≤ tt
-bit_le false = lit≤ tt
-
 -- twice the digits times 2 ^ j, below a field of 94
 little : (d j : ℕ) → d < 2 ^ 24 → suc j < 94 → 2 * (2 * (d * 2 ^ j)) < 2 ^ 118
 little d j h l =
@@ -204,6 +211,17 @@ answers v s x t h (inr (inr z)) = (
   λ l k. absurd (no_top x z.0 k),
 )
 
+-- the sign of a value
+valued : (v : Float) (t : Bool) (k c : ℕ) → HasValue v t k c → is_sign_negative v ≡ t
+unfolding is_sign_negative
+valued nan t k c h = absurd h
+valued (inf s) t k c h = absurd h
+valued (fin s m e) t k c h = h.0
+
+of_infinity : (t : Bool) → is_sign_negative (inf t) ≡ t
+unfolding is_sign_negative
+of_infinity t = refl
+
 module _ (v : Float) (F : T (fits binary32 v)) (N : T (not (is_nan v))) where
   abbrev b : ℕ
   b = to_bits binary32 v
@@ -226,33 +244,14 @@ module _ (v : Float) (F : T (fits binary32 v)) (N : T (not (is_nan v))) where
   pub tiny : x < 94 → 0 ≡ phase_step v
   tiny l = a.0 l
 
-  -- the sign's bit
-  abbrev n : ℕ
-  n = b / 2 ^ 31
+  -- the sign
+  sign_seen : (t : Bool) (y z : ℕ) → View binary32 t y z v → is_sign_negative v ≡ t
+  sign_seen t y z (inl h) = valued v t z (2 ^ 149) h.1
+  sign_seen t y z (inr (inl h)) = valued v t ((2 ^ 23 + z) * 2 ^ h.0) (2 ^ 149) h.3
+  sign_seen t y z (inr (inr h)) = ap is_sign_negative h.1 ∙ of_infinity t
 
-  pub n-le : n ≤ 1
-  n-le = go b (to_bits-lt binary32 v F)
-    where
-      go : (b : ℕ) → b < 2 ^ 32 → b / 2 ^ 31 ≤ 1
-      go b h = omega arith
-
-  clear : n ≡ 0 → b < 2 ^ 31
-  clear h = go b h
-    where
-      go : (b : ℕ) → b / 2 ^ 31 ≡ 0 → b < 2 ^ 31
-      go b h = omega arith
-
-  set : (n ≡ 0 → ⊥) → (2 ^ 31 ≤ b) × (n ≡ 1)
-  set h = go b h n-le
-    where
-      go : (b : ℕ) → (b / 2 ^ 31 ≡ 0 → ⊥) → b / 2 ^ 31 ≤ 1 → (2 ^ 31 ≤ b) × (b / 2 ^ 31 ≡ 1)
-      go b h k = omega arith
-
-  pub huge : 158 ≤ x → n ≡ 0 → 4294967295 ≡ phase_step v
-  huge l k = subst (λ (r : Bool). cond r 0 4294967295 ≡ phase_step v) (lt-leb (2 ^ 31) b (clear k)) (a.1 l)
-
-  pub huge-neg : 158 ≤ x → (n ≡ 0 → ⊥) → 0 ≡ phase_step v
-  huge-neg l k = subst (λ (r : Bool). cond r 0 4294967295 ≡ phase_step v) (le-leb (2 ^ 31) b (set k).0) (a.1 l)
+  sign_is : is_sign_negative v ≡ s
+  sign_is = sign_seen s (b % 2 ^ 31 / 2 ^ 23) (b % 2 ^ 23) (view binary32 v F N)
 
   in-range : (n : ℕ) → x < 158 → half_up n (g * 2 ^ x) (2 ^ 118) < 2 ^ 63
   in-range n l = rounds_fine n (g * 2 ^ x) (2 ^ 118) (2 ^ 63) (pow_pos 118) (le_trans (add-le-add (mul-le-mul (below (g) (sig_lt b)) (pow_mono (under x l))) (le_refl (2 ^ 118))) (lit≤ tt))
@@ -269,15 +268,26 @@ module _ (v : Float) (F : T (fits binary32 v)) (N : T (not (is_nan v))) where
   middle : 94 ≤ x → x < 158 → Middle s
   middle l k = a.2 l k ∙ out_fine s (half_up (bit s) (g * 2 ^ x) (2 ^ 118)) (in-range (bit s) k)
 
-  pub plain : 94 ≤ x → x < 158 → n ≡ 0 → (r : ℕ) → r ≡ half_up n (g * 2 ^ x) (2 ^ 118) % 2 ^ 32 → r ≡ phase_step v
-  plain l k h r e = e ∙ ap (λ (y : ℕ). half_up y (g * 2 ^ x) (2 ^ 118) % 2 ^ 32) h ∙ sym (subst Middle (lt-leb (2 ^ 31) b (clear h)) (middle l k))
+  module _ (minus : Bool) (is : minus ≡ is_sign_negative v) where
+    sign : (t : Bool) → minus ≡ t → s ≡ t
+    sign t h = sym sign_is ∙ sym is ∙ h
 
-  wrapped : (r m : ℕ) → r < 2 ^ 32 → m < 2 ^ 32 → (r + m) % 2 ^ 32 ≡ 0 → r ≡ (2 ^ 32 - m) % 2 ^ 32
-  wrapped r m p q e = omega arith
+    pub huge : 158 ≤ x → minus ≡ false → 4294967295 ≡ phase_step v
+    huge l h = subst (λ (r : Bool). cond r 0 4294967295 ≡ phase_step v) (sign false h) (a.1 l)
 
-  pub negated : 94 ≤ x → x < 158 → (n ≡ 0 → ⊥) → (r m : ℕ) → r < 2 ^ 32 → (r + m) % 2 ^ 32 ≡ 0 → m ≡ half_up n (g * 2 ^ x) (2 ^ 118) % 2 ^ 32 → r ≡ phase_step v
-  negated l k h r m p e q =
-      let c : m < 2 ^ 32 = subst (λ (y : ℕ). y < 2 ^ 32) (sym q) (mod-lt (half_up n (g * 2 ^ x) (2 ^ 118)) (pow_pos 32)) in
-      wrapped r m p c e
-      ∙ ap (λ (y : ℕ). (2 ^ 32 - y) % 2 ^ 32) (q ∙ ap (λ (y : ℕ). half_up y (g * 2 ^ x) (2 ^ 118) % 2 ^ 32) (set h).1)
-      ∙ sym (subst Middle (le-leb (2 ^ 31) b (set h).0) (middle l k))
+    pub huge_minus : 158 ≤ x → minus ≡ true → 0 ≡ phase_step v
+    huge_minus l h = subst (λ (r : Bool). cond r 0 4294967295 ≡ phase_step v) (sign true h) (a.1 l)
+
+    module _ (m : ℕ) (q : m ≡ half_up (bit minus) (g * 2 ^ x) (2 ^ 118) % 2 ^ 32) (l : 94 ≤ x) (k : x < 158) where
+      pub plain : minus ≡ false → m ≡ phase_step v
+      plain h = q ∙ ap (λ (t : Bool). half_up (bit t) (g * 2 ^ x) (2 ^ 118) % 2 ^ 32) h ∙ sym (subst Middle (sign false h) (middle l k))
+
+      wrapped : (r m : ℕ) → r < 2 ^ 32 → m < 2 ^ 32 → (r + m) % 2 ^ 32 ≡ 0 → r ≡ (2 ^ 32 - m) % 2 ^ 32
+      wrapped r m p q e = omega arith
+
+      pub negated : minus ≡ true → (r : ℕ) → r < 2 ^ 32 → (r + m) % 2 ^ 32 ≡ 0 → r ≡ phase_step v
+      negated h r p e =
+          let c : m < 2 ^ 32 = subst (λ (y : ℕ). y < 2 ^ 32) (sym q) (mod-lt (half_up (bit minus) (g * 2 ^ x) (2 ^ 118)) (pow_pos 32)) in
+          wrapped r m p c e
+          ∙ ap (λ (y : ℕ). (2 ^ 32 - y) % 2 ^ 32) (q ∙ ap (λ (t : Bool). half_up (bit t) (g * 2 ^ x) (2 ^ 118) % 2 ^ 32) h)
+          ∙ sym (subst Middle (sign true h) (middle l k))
