@@ -1,28 +1,25 @@
 -- Godard's R2 of each constellation, computed. Assumes nothing.
-use mathlib.Core.Path.{◌≡◌, refl}
+use mathlib.Core.Path.{◌≡◌}
+use mathlib.Core.Logic.{◌⊎◌, inl, inr}
 use lib.Count.{count_trailing_zeros}
-use lib.Ieee.{Float, of_bits, of_fields, odd, round, units, size, span, climb}
+use lib.Ieee.{of_bits, of_fields, odd, round, units, size, span, climb}
 use Rattle.types.specs.declared.EqConstellation.{EqConstellation}
 use Rattle.types.specs.declared.EqConstellation.TheVariants.{Bpsk, Qpsk, Psk8, Qam16, Qam64}
 use Rattle.types.specs.Bits.{f32, one32}
 use Rattle.definition.specs.Floats.{narrow}
 use Rattle.definition.specs.Points.{radius}
 
--- what the code has of each
-abbrev pub radii : EqConstellation → Float
-radii Bpsk = one32
-radii Qpsk = one32
-radii Psk8 = one32
-radii Qam16 = f32 0x3fa8_f5c3
-radii Qam64 = f32 0x3fb0_c30c
+module _ (k : EqConstellation) where
+  pub one_is : ((k ≡ Bpsk) ⊎ ((k ≡ Qpsk) ⊎ (k ≡ Psk8))) → one32 ≡ radius k
+  unfolding radius narrow round units size span climb of_bits of_fields odd count_trailing_zeros
+  one_is (inl h) = rw h
+  one_is (inr (inl h)) = rw h
+  one_is (inr (inr h)) = rw h
 
-radii_are : (k : EqConstellation) → radii k ≡ radius k
-unfolding radius narrow round units size span climb of_bits of_fields odd count_trailing_zeros
-radii_are Bpsk = refl
-radii_are Qpsk = refl
-radii_are Psk8 = refl
-radii_are Qam16 = refl
-radii_are Qam64 = refl
+  pub qam16_is : k ≡ Qam16 → f32 0x3fa8_f5c3 ≡ radius k
+  unfolding radius narrow round units size span climb of_bits of_fields odd count_trailing_zeros
+  qam16_is h = rw h
 
-pub radius_is : (k p : EqConstellation) → k ≡ p → radii p ≡ radius k
-radius_is k p h = rw h (radii_are p)
+  pub qam64_is : k ≡ Qam64 → f32 0x3fb0_c30c ≡ radius k
+  unfolding radius narrow round units size span climb of_bits of_fields odd count_trailing_zeros
+  qam64_is h = rw h

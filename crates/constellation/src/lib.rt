@@ -14,6 +14,7 @@ const QAM16_R2: f32 = 1.32;
 const QAM64_R2: f32 = 1.3809524;
 
 // a with the sign of v; -0 and a NaN count as positive.
+#[tactic(auto, unfolding(definition::specs::Points::side))]
 fn side(v: f32, a: f32) -> f32
     ensures { result ≡ sideDef v a }
 {
@@ -21,6 +22,7 @@ fn side(v: f32, a: f32) -> f32
 }
 
 // The decision: the point of the constellation nearest to y.
+#[tactic(auto, unfolding(definition::specs::Points::decide))]
 pub fn decide(k: EqConstellation, y: C32) -> C32
     ensures { result ≡ decideDef k y }
 {
@@ -40,13 +42,12 @@ pub fn decide(k: EqConstellation, y: C32) -> C32
 }
 
 // Godard's R2, the radius of the constant modulus: E|a|^4 / E|a|^2 over points of mean power 1.
+#[tactic(auto, using(crate::proofs::Radius::one_is, crate::proofs::Radius::qam16_is, crate::proofs::Radius::qam64_is))]
 pub fn cma_r2(k: EqConstellation) -> f32
     ensures { result ≡ radius k }
 {
     match k {
-        EqConstellation::Bpsk => 1.0,
-        EqConstellation::Qpsk => 1.0,
-        EqConstellation::Psk8 => 1.0,
+        EqConstellation::Bpsk | EqConstellation::Qpsk | EqConstellation::Psk8 => 1.0,
         EqConstellation::Qam16 => QAM16_R2,
         EqConstellation::Qam64 => QAM64_R2,
     }
