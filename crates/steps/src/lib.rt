@@ -120,34 +120,34 @@ fn mean(mse: f32, e: C32) -> f32
 {
     let p = complex::norm(e);
     if numeric::is_finite(p) {
-        return numeric::flush_denormal(mse + MSE_ALPHA * (p - mse));
+        numeric::flush_denormal(mse + MSE_ALPHA * (p - mse))
+    } else {
+        mse
     }
-    mse
 }
 
-// The frequency f, and the phase on by the step of v.
-fn moved(phase: u32, mse: f32, f: f32, v: f32) -> Track
-    ensures { result ≡ record { mse = mse; freq = f; phase = (phase + phase_step v) % 2 ^ 32 } }
+// The phase detector's value of the symbol z with the decision d. One that is not finite counts as 0.
+#[tactic(auto, unfolding(definition::specs::Sample::phase_error))]
+fn phase_error(z: C32, d: C32) -> f32
+    ensures { result ≡ phase_error z d }
 {
-    Track {
-        mse,
-        freq: f,
-        phase: std::num::wrapping_add_u32(phase, costas_step::phase_step_f32(v)),
-    }
+    let p = z.im * d.re - z.re * d.im;
+    if numeric::is_finite(p) { p } else { 0.0 }
 }
 
-// The running numbers after the symbol z with the decision d, e apart. Two whole ways: a detector value that is not finite counts as 0.
+// The running numbers after the symbol z with the decision d, e apart.
+#[tactic(auto, unfolding(crate::specs::Step::track_of, definition::specs::Sample::freq_after, definition::specs::Sample::phase_after))]
 fn tracked(s: EqualizeState, z: C32, d: C32, e: C32) -> Track
     ensures { result ≡ track_of s (mse_after s.mse (norm e)) (phase_error z d) }
 {
-    let p = z.im * d.re - z.re * d.im;
-    let mse = mean(s.mse, e);
-    if numeric::is_finite(p) {
-        let f = costas::integrate(s.freq + s.ki * p, EqualizeState::PHASE_MAX_FREQ);
-        return moved(s.phase, mse, f, f + s.kp * p);
+    let p = phase_error(z, d);
+    let freq = costas::integrate(s.freq + s.ki * p, EqualizeState::PHASE_MAX_FREQ);
+    let turn = costas_step::phase_step_f32(freq + s.kp * p);
+    Track {
+        mse: mean(s.mse, e),
+        freq,
+        phase: s.phase.wrapping_add(turn),
     }
-    let f = costas::integrate(s.freq + s.ki * 0.0, EqualizeState::PHASE_MAX_FREQ);
-    moved(s.phase, mse, f, f + s.kp * 0.0)
 }
 
 // Godard's constant modulus error, clipped.
@@ -163,6 +163,7 @@ fn modulus(y: C32, radius: f32) -> C32
 }
 
 // The error and the sample to feed back, by the mode.
+#[tactic(auto, unfolding(crate::specs::Step::aimed, definition::specs::Sample::error_of, definition::specs::Sample::fed_of))]
 fn aim_of(s: EqualizeState, t: CosSin, y: C32, d: C32, e: C32) -> Aim
     ensures { result ≡ aimed s.mode s.params.constellation t y d e }
 {
@@ -179,29 +180,30 @@ fn aim_of(s: EqualizeState, t: CosSin, y: C32, d: C32, e: C32) -> Aim
 }
 
 // The update by the step size m and the error e, or none.
+#[tactic(auto, unfolding(crate::specs::Step::update_if, definition::specs::Floats::scaled_c, definition::specs::Floats::finite_c))]
 fn update_of(live: bool, e: C32, m: f32) -> Update
     ensures { result ≡ update_if live (scaled_c m e) }
 {
     let re = m * e.re;
     let im = m * e.im;
     if live & numeric::is_finite(re) & numeric::is_finite(im) {
-        return Update::Step(re, im);
+        Update::Step(re, im)
+    } else {
+        Update::Hold
     }
-    Update::Hold
 }
 
+// What is fed back: zero where the window is silent.
 fn fed_if(live: bool, fed: C32) -> C32
     ensures { result ≡ (if live then fed else zero_c) }
 {
-    if live {
-        return fed;
-    }
-    C32::ZERO
+    if live { fed } else { C32::ZERO }
 }
 
 // Steps 4 to 7 with c and s, by the sum y, the forward power and the step size m. It has two callers, and out of line a sample of a run takes 3 to 5 ns
 // longer.
 #[inline(always)]
+#[tactic(auto, using(crate::proofs::Exits::step_is))]
 pub fn step(s: EqualizeState, t: CosSin, y: C32, forward: f32, m: f32) -> Stepped
     ensures { result ≡ step_with s t y forward m }
 {
@@ -225,6 +227,7 @@ pub fn step(s: EqualizeState, t: CosSin, y: C32, forward: f32, m: f32) -> Steppe
 }
 
 // Steps 4 to 7 of a record: with cosine and sine of its phase.
+#[tactic(auto, unfolding(crate::specs::Step::step_of))]
 pub fn follow(s: EqualizeState, y: C32, forward: f32, size: f32) -> Stepped
     ensures { result ≡ step_of s y forward size }
 {
