@@ -7,19 +7,15 @@ ghost use Rattle.definition.specs.Slices.{every};
 ghost use Rattle.definition.specs.Packed.{equalizer};
 ghost use Rattle.definition.specs.Rules.{same_bits, taps_fit, feedback_fits, mu_fits, bw_fits, plus_zero, rule_r1, rule_r2, weight_fits, freq_fits, rule_r3, rule_r4, rules as rulesDef};
 
+use std::num::f32_to_bits_with_nan;
 use types::{EqMode, EqParams, EqualizeState};
 
-// The same by bits, any two NaNs being the same. The library's total_cmp asks that there is no NaN.
+// The same by bits, any two NaNs being the same.
+#[tactic(auto, unfolding(definition::specs::Rules::same_bits))]
 fn same_bits(x: f32, y: f32) -> bool
     ensures { result ≡ same_bits x y }
 {
-    if x.is_nan() {
-        return y.is_nan();
-    }
-    if y.is_nan() {
-        return false;
-    }
-    x.to_bits() == y.to_bits()
+    f32_to_bits_with_nan(x) == f32_to_bits_with_nan(y)
 }
 
 // At most 63.
@@ -31,6 +27,7 @@ pub fn feedback_fits(m: usize) -> bool
 }
 
 // An odd number from 3 to 63.
+#[tactic(auto, unfolding(definition::specs::Rules::taps_fit), using(crate::proofs::Ranges::in_nats))]
 pub fn taps_fit(n: usize) -> bool
     ensures { result ≡ taps_fit n }
 {
@@ -38,6 +35,7 @@ pub fn taps_fit(n: usize) -> bool
 }
 
 // From 0.00001 to 1. The ranges stand here and not in constants: a constant's value may call nothing, and a range is a call.
+#[tactic(auto, unfolding(definition::specs::Rules::mu_fits), using(crate::proofs::Ranges::in_floats))]
 pub fn check_mu(mu: f32) -> bool
     ensures { result ≡ mu_fits mu }
 {
@@ -45,6 +43,7 @@ pub fn check_mu(mu: f32) -> bool
 }
 
 // 0 of either sign, or 0.0001 to 0.2.
+#[tactic(auto, unfolding(definition::specs::Rules::bw_fits), using(crate::proofs::Ranges::in_floats))]
 pub fn bw_fits(bw: f64) -> bool
     ensures { result ≡ bw_fits bw }
 {
@@ -52,17 +51,15 @@ pub fn bw_fits(bw: f64) -> bool
 }
 
 // +0.
+#[tactic(auto, unfolding(definition::specs::Rules::plus_zero))]
 fn plus_zero(v: f32) -> bool
     ensures { result ≡ plus_zero v }
 {
-    if v.is_nan() {
-        return false;
-    }
-    v.to_bits() == 0
+    f32_to_bits_with_nan(v) == 0
 }
 
 // +0, or finite and at least 1e-30 in magnitude.
-#[tactic(auto, using(crate::proofs::Records::weight_is))]
+#[tactic(auto, unfolding(definition::specs::Rules::weight_fits), using(crate::proofs::Bits::sign_abs))]
 fn weight_fits(v: f32) -> bool
     ensures { result ≡ weight_fits v }
 {
@@ -70,6 +67,7 @@ fn weight_fits(v: f32) -> bool
 }
 
 // +0, or 1e-30 to 0.125 in magnitude.
+#[tactic(auto, unfolding(definition::specs::Rules::freq_fits), using(crate::proofs::Bits::sign_abs, crate::proofs::Ranges::in_floats))]
 fn freq_fits(v: f32) -> bool
     ensures { result ≡ freq_fits v }
 {
@@ -85,6 +83,7 @@ pub fn forward(n: usize, m: usize) -> usize
 }
 
 // R1: the taps, by the lengths of weights and window.
+#[tactic(auto, using(crate::proofs::Records::r1_is))]
 pub fn rule_r1(s: EqualizeState, w: &[f32], h: &[f32]) -> bool
     ensures { result ≡ rule_r1 (equalizer s w.now h.now) }
 {
@@ -122,7 +121,7 @@ pub fn all_finite(x: &[f32]) -> bool
 }
 
 // R3: every weight and window part, and the frequency.
-#[tactic(auto, using(crate::proofs::Records::r3_is))]
+#[tactic(auto, unfolding(definition::specs::Rules::rule_r3))]
 fn rule_r3(s: EqualizeState, w: &[f32], h: &[f32]) -> bool
     ensures { result ≡ rule_r3 (equalizer s w.now h.now) }
 {
@@ -130,6 +129,7 @@ fn rule_r3(s: EqualizeState, w: &[f32], h: &[f32]) -> bool
 }
 
 // R4: the count, by the mode.
+#[tactic(auto, using(crate::proofs::Records::r4_never, crate::proofs::Records::r4_cma, crate::proofs::Records::r4_decision))]
 fn rule_r4(s: EqualizeState) -> bool
     ensures { result ≡ rule_r4 s }
 {
@@ -143,6 +143,7 @@ fn rule_r4(s: EqualizeState) -> bool
 
 // R1 to R4. R1 bounds both lengths, to 126 complex numbers, and is tried alone first: a longer slice is answered before a part of it is read. Test 1 has
 // asked for whole numbers, so at most 252 parts each of weights and window are looked at.
+#[tactic(auto, using(crate::proofs::Records::rules_shape, crate::proofs::Records::rules_rest))]
 pub fn rules(s: EqualizeState, w: &[f32], h: &[f32]) -> bool
     ensures { result ≡ rulesDef (equalizer s w.now h.now) }
 {
