@@ -19,13 +19,13 @@ module _ (s : EqualizeState) where
   adv_never m t = rw (m, eq-eqb s.params.cma_symbols never_switch t)
 
   module _ (m : s.mode ≡ Cma) (t : s.params.cma_symbols ≡ 4294967295 → ⊥) where
-    pub adv-more : s.count + 1 < s.params.cma_symbols → with_mode s s.mode (s.count + 1) ≡ advance s
+    pub adv_more : s.count + 1 < s.params.cma_symbols → with_mode s s.mode (s.count + 1) ≡ advance s
     unfolding advance advance_in
-    adv-more l = rw (m, ne_eqb s.params.cma_symbols never_switch t, lt-ltb (s.count + 1) s.params.cma_symbols l)
+    adv_more l = rw (m, ne_eqb s.params.cma_symbols never_switch t, lt-ltb (s.count + 1) s.params.cma_symbols l)
 
-    pub adv-switch : s.params.cma_symbols ≤ s.count + 1 → with_mode s Decision (s.count + 1) ≡ advance s
+    pub adv_switch : s.params.cma_symbols ≤ s.count + 1 → with_mode s Decision (s.count + 1) ≡ advance s
     unfolding advance advance_in
-    adv-switch l = rw (m, ne_eqb s.params.cma_symbols never_switch t, le-ltb (s.count + 1) s.params.cma_symbols l)
+    adv_switch l = rw (m, ne_eqb s.params.cma_symbols never_switch t, le-ltb (s.count + 1) s.params.cma_symbols l)
 
     pub count-below : rule_r4 s ≡ true → s.count < s.params.cma_symbols
     unfolding rule_r4 count_fits
