@@ -1,7 +1,7 @@
 // Whether a call is served: the first test that fails says why not.
 #![tactic(auto)]
 
-ghost use Rattle.std.specs.Prelude.{◌≡◌, ◌&&◌, ◌++◌, length};
+ghost use Rattle.std.specs.Prelude.{◌≡◌, ◌&&◌, ◌++◌, length, cond, Ok, Err};
 ghost use Rattle.definition.specs.Refusals.{first_of};
 ghost use Rattle.definition.specs.Packed.{equalizer};
 ghost use Rattle.definition.specs.Rules.{rules as rulesDef};
@@ -9,18 +9,32 @@ ghost use Rattle.definition.specs.Calls.{even, tap_tests, setting_tests, new_ver
 
 use types::{EqParams, EqualizeState, Error};
 
+// Ok, or the refusal e.
+fn ensure(holds: bool, e: Error) -> Result<(), Error>
+    ensures { result ≡ cond holds (Ok tt) (Err e) }
+{
+    holds.then_some(()).ok_or(e)
+}
+
+// Test 1 of one slice.
+fn even(n: usize) -> bool
+    ensures { result ≡ even n }
+{
+    n % 2 == 0
+}
+
 // Test 1 of weights and window.
 pub fn both_even(lw: usize, lh: usize) -> bool
     ensures { result ≡ (even lw && even lh) }
 {
-    (lw % 2 == 0) & (lh % 2 == 0)
+    even(lw) & even(lh)
 }
 
 // Test 1 of all four slices.
 pub fn all_even(lw: usize, lh: usize, xs: usize, ys: usize) -> bool
     ensures { result ≡ (even lw && even lh && even xs && even ys) }
 {
-    (lw % 2 == 0) & (lh % 2 == 0) & (xs % 2 == 0) & (ys % 2 == 0)
+    both_even(lw, lh) & even(xs) & even(ys)
 }
 
 // Tests 5 to 7: the settings.
@@ -28,16 +42,9 @@ pub fn all_even(lw: usize, lh: usize, xs: usize, ys: usize) -> bool
 fn settings_verdict(p: EqParams) -> Result<(), Error>
     ensures { result ≡ first_of (setting_tests p) }
 {
-    if !record_rules::check_mu(p.mu_cma) {
-        return Err(Error::MuCma);
-    }
-    if !record_rules::check_mu(p.mu_dd) {
-        return Err(Error::MuDd);
-    }
-    if !record_rules::bw_fits(p.phase_bw) {
-        return Err(Error::Bandwidth);
-    }
-    Ok(())
+    ensure(record_rules::check_mu(p.mu_cma), Error::MuCma)?;
+    ensure(record_rules::check_mu(p.mu_dd), Error::MuDd)?;
+    ensure(record_rules::bw_fits(p.phase_bw), Error::Bandwidth)
 }
 
 // Tests 2 to 7: the taps, then the settings.
@@ -48,15 +55,12 @@ fn taps_verdict(p: EqParams, lw: usize, lh: usize) -> Result<(), Error>
     let len = lw / 2;
     let got = lh / 2;
     let m = p.feedback_taps;
-    if !record_rules::feedback_fits(m) {
-        return Err(Error::Feedback);
-    }
-    if !record_rules::taps_fit(record_rules::forward(len, m)) {
-        return Err(Error::Taps);
-    }
-    if got != len {
-        return Err(Error::Window { expected: len, got });
-    }
+    ensure(record_rules::feedback_fits(m), Error::Feedback)?;
+    ensure(
+        record_rules::taps_fit(record_rules::forward(len, m)),
+        Error::Taps,
+    )?;
+    ensure(got == len, Error::Window { expected: len, got })?;
     settings_verdict(p)
 }
 
@@ -65,9 +69,7 @@ fn taps_verdict(p: EqParams, lw: usize, lh: usize) -> Result<(), Error>
 pub fn new_verdict(p: EqParams, lw: usize, lh: usize) -> Result<(), Error>
     ensures { result ≡ new_verdict p lw lh }
 {
-    if !both_even(lw, lh) {
-        return Err(Error::Odd);
-    }
+    ensure(both_even(lw, lh), Error::Odd)?;
     taps_verdict(p, lw, lh)
 }
 
@@ -76,13 +78,9 @@ pub fn new_verdict(p: EqParams, lw: usize, lh: usize) -> Result<(), Error>
 pub fn reset_verdict(s: EqualizeState, w: &[f32], h: &[f32]) -> Result<(), Error>
     ensures { result ≡ reset_verdict (equalizer s w.now h.now) }
 {
-    if !both_even(w.len(), h.len()) {
-        return Err(Error::Odd);
-    }
-    if !(record_rules::rule_r1(s, w, h) & record_rules::rule_r2(s)) {
-        return Err(Error::Record);
-    }
-    Ok(())
+    ensure(both_even(w.len(), h.len()), Error::Odd)?;
+    let holds = record_rules::rule_r1(s, w, h) & record_rules::rule_r2(s);
+    ensure(holds, Error::Record)
 }
 
 // Tests 1, 8, 9 and 10 of equalizing, by the lengths of input, output and marks.
@@ -98,19 +96,10 @@ pub fn verdict(
     ensures { result ≡ verdict_def (rulesDef (equalizer s w.now h.now))
         (record { weights = length w.now; window = length h.now; input = xs; output = ys; marks = ms }) }
 {
-    if !all_even(w.len(), h.len(), xs, ys) {
-        return Err(Error::Odd);
-    }
-    if !record_rules::rules(s, w, h) {
-        return Err(Error::Record);
-    }
+    ensure(all_even(w.len(), h.len(), xs, ys), Error::Odd)?;
+    ensure(record_rules::rules(s, w, h), Error::Record)?;
     let expected = xs / 2;
     let got = ys / 2;
-    if got != expected {
-        return Err(Error::Output { expected, got });
-    }
-    if ms != expected {
-        return Err(Error::Marks { expected, got: ms });
-    }
-    Ok(())
+    ensure(got == expected, Error::Output { expected, got })?;
+    ensure(ms == expected, Error::Marks { expected, got: ms })
 }
