@@ -1,135 +1,28 @@
--- The floor of a float held to 0 .. k, and what stands at it, by comparisons with 1, 2 and so on. Assumes nothing.
-use mathlib.Core.Path.{◌≡◌, refl, sym, ap, ◌∙◌, subst}
-use mathlib.Core.Bool.{Bool, true, false, cond}
-use mathlib.Core.List.{List, [], ◌∷◌}
-use Prim.Native.Nat.{ℕ, zero, suc, ◌-◌, ◌*◌, ◌/◌, ◌^◌, ◌≤◌, ◌<◌, min}
-use native.Mathlib.Nat.{le_of_eq, le_antisymm, mul-one, le-min, le-div_iff_mul-le, div-lt_iff_lt-mul, lt_of_le_of_lt, min-le_right, min-le_left, zero-mul, le_of_mul-le-mul_right}
+-- The floor of a float held to 0 .. k, by the library's conversion. Assumes nothing.
+use mathlib.Core.Path.{◌≡◌, refl}
+use mathlib.Core.Bool.{true, false}
+use Prim.Native.Nat.{ℕ, ◌-◌, ◌*◌, ◌/◌, ◌^◌, ◌≤◌, ◌<◌, min}
+use native.Mathlib.Nat.{min-le_left}
 use native.Mathlib.Omega.{arith}
-use lib.IntN.{pos}
-use lib.Count.{count_trailing_zeros}
-use lib.Dec.{T, eqb, eqb→eq}
-use lib.ListN.{length, get_or}
-use lib.Ieee.{Float, nan, inf, fin, binary32, of_int, odd, round, units, size, span, climb, up, down, lt, le, eq}
-use lib.Ieee.Fits.{down_pos, and_r}
-use Rattle.std.proofs.lemmas.List.{get_or_default}
-use Rattle.laws.specs.Order.{le_yes, le_no}
+use lib.Ieee.{Float, nan, inf, fin, up, down, to_unsigned}
 use Rattle.definition.specs.Points.{held_to}
 
--- ---- a comparison with the whole number n * 2 ^ j, as a fact on the floor
+-- one end within the other
+within : (q a b : ℕ) → b < a → min (min q (a - 1)) b ≡ min b q
+within q a b h = omega arith
 
-at_least : (top n j : ℕ) (t : Float) → n * 2 ^ j ≤ top → le (fin false n (pos j)) t ≡ true → n * 2 ^ j ≤ held_to top t
-unfolding le lt eq held_to
-at_least top n j nan g h = absurd (subst T (sym h) tt)
-at_least top n j (inf true) g h = absurd (subst T (sym h) tt)
-at_least top n j (inf false) g h = g
-at_least top n j (fin true m e) g h =
-    let a = n * 2 ^ j * down e in
-    let z : a ≡ 0 = eqb→eq a 0 (and_r (eqb a (m * up e * 1)) (eqb a 0) (subst T (sym h) tt)) in
-    le_of_mul-le-mul_right (le_of_eq (z ∙ sym (zero-mul (down e)))) (down_pos e)
-at_least top n j (fin false m e) g h =
-    le-min g ((le-div_iff_mul-le (down_pos e)).1 (subst (λ (x : ℕ). n * 2 ^ j * down e ≤ x) (mul-one (m * up e)) (le_yes _ _ h)))
+pub index_is : (top : ℕ) (t : Float) → top < 2 ^ 64 → min (to_unsigned 64 t) top ≡ held_to top t
+unfolding to_unsigned held_to
+index_is top nan h = omega arith
+index_is top (inf true) h = omega arith
+index_is top (inf false) h = omega (arith, h)
+index_is top (fin true m e) h = omega arith
+index_is top (fin false m e) h = within (m * up e / down e) (2 ^ 64) top h
 
--- false too of a NaN, whose floor counts as 0
-under : (top n j : ℕ) (t : Float) → 0 < n * 2 ^ j → le (fin false n (pos j)) t ≡ false → held_to top t < n * 2 ^ j
-unfolding le lt eq held_to
-under top n j nan g h = g
-under top n j (inf true) g h = g
-under top n j (inf false) g h = absurd (subst T h tt)
-under top n j (fin true m e) g h = g
-under top n j (fin false m e) g h =
-    lt_of_le_of_lt (min-le_right top (m * up e / down e)) ((div-lt_iff_lt-mul (down_pos e)).1 (subst (λ (x : ℕ). x < n * 2 ^ j * down e) (mul-one (m * up e)) (le_no _ _ h)))
-
-held_le : (top : ℕ) (t : Float) → held_to top t ≤ top
+pub held_le : (top : ℕ) (t : Float) → held_to top t ≤ top
 unfolding held_to
 held_le top nan = omega arith
 held_le top (inf true) = omega arith
-held_le top (inf false) = le_of_eq refl
+held_le top (inf false) = omega arith
 held_le top (fin true m e) = omega arith
 held_le top (fin false m e) = min-le_left top (m * up e / down e)
-
--- ---- one number more: what stands at the floor held to k, of what stands at the floor held to k - 1
-
--- the float of k, from 1 to 7, is exact
-exact : (k : ℕ) → 1 ≤ k → k < 8 → (n : ℕ) × (j : ℕ) × (of_int binary32 (pos k) ≡ fin false n (pos j)) × (n * 2 ^ j ≡ k)
-unfolding of_int odd count_trailing_zeros round units size span climb
-exact zero a b = absurd (omega arith)
-exact (suc zero) a b = (1, 0, refl, refl)
-exact (suc (suc zero)) a b = (1, 1, refl, refl)
-exact (suc (suc (suc zero))) a b = (3, 0, refl, refl)
-exact (suc (suc (suc (suc zero)))) a b = (1, 2, refl, refl)
-exact (suc (suc (suc (suc (suc zero))))) a b = (5, 0, refl, refl)
-exact (suc (suc (suc (suc (suc (suc zero)))))) a b = (3, 1, refl, refl)
-exact (suc (suc (suc (suc (suc (suc (suc zero))))))) a b = (7, 0, refl, refl)
-exact (suc (suc (suc (suc (suc (suc (suc (suc k)))))))) a b = absurd (omega arith)
-
-lower_min : (k q : ℕ) → min k q < k → min k q ≡ min (k - 1) q
-lower_min k q h = omega arith
-
-lower : (k : ℕ) (t : Float) → held_to k t < k → held_to k t ≡ held_to (k - 1) t
-unfolding held_to
-lower k nan h = refl
-lower k (inf true) h = refl
-lower k (inf false) h = absurd (omega arith)
-lower k (fin true m e) h = refl
-lower k (fin false m e) h = lower_min k (m * up e / down e) h
-
-positive : (k : ℕ) → 1 ≤ k → 0 < k
-positive k h = omega arith
-
-abbrev reached : ℕ → Float → Bool
-reached k t = le (of_int binary32 (pos k)) t
-
-up_to : (k : ℕ) (t : Float) → 1 ≤ k → k < 8 → reached k t ≡ true → held_to k t ≡ k
-up_to k t a b h =
-    let e = exact k a b in
-    le_antisymm (held_le k t) (subst (λ (x : ℕ). x ≤ held_to k t) e.3 (at_least k e.0 e.1 t (le_of_eq e.3) (subst (λ (x : Float). le x t ≡ true) e.2 h)))
-
-same : (k : ℕ) (t : Float) → 1 ≤ k → k < 8 → reached k t ≡ false → held_to k t ≡ held_to (k - 1) t
-same k t a b h =
-    let e = exact k a b in
-    lower k t
-    (subst (λ (x : ℕ). held_to k t < x) e.3
-    (under k e.0 e.1 t (subst (λ (x : ℕ). 0 < x) (sym e.3) (positive k a)) (subst (λ (x : Float). le x t ≡ false) e.2 h)))
-
-none : (t : Float) → held_to 0 t ≡ 0
-none t = le_antisymm (held_le 0 t) (omega arith)
-
-module _ {A : Type 0} (xs : List A) (t : Float) where
-  -- before the first comparison
-  pub at_none : (m : ℕ) (y : A) → 0 < length xs → m ≡ 0 → (d : A) → get_or xs 0 y ≡ get_or xs (held_to m t) d
-  at_none m y l s d = get_or_default xs 0 y d l ∙ ap (λ (n : ℕ). get_or xs n d) (sym (none t)) ∙ ap (λ (n : ℕ). get_or xs (held_to n t) d) (sym s)
-
-  -- after one more
-  pub next : (k m : ℕ) (y r r' : A)
-      → 1 ≤ k → k < 8 → k < length xs → m ≡ k → r' ≡ cond (reached k t) (get_or xs k y) r → ((d : A) → r ≡ get_or xs (held_to (k - 1) t) d) → (d : A) → r' ≡ get_or xs (held_to m t) d
-  next k m y r r' a b l s e h d = e ∙ go (reached k t) refl ∙ ap (λ (n : ℕ). get_or xs (held_to n t) d) (sym s)
-    where
-      go : (c : Bool) → reached k t ≡ c → cond c (get_or xs k y) r ≡ get_or xs (held_to k t) d
-      go true p = get_or_default xs k y d l ∙ ap (λ (n : ℕ). get_or xs n d) (sym (up_to k t a b p))
-      go false p = h d ∙ ap (λ (n : ℕ). get_or xs n d) (sym (same k t a b p))
-
--- ---- the numbers themselves: k stands at index k
-
-stands4 : (k : ℕ) → k ≤ 3 → get_or (0 ∷ 1 ∷ 2 ∷ 3 ∷ []) k 0 ≡ k
-stands4 zero h = refl
-stands4 (suc zero) h = refl
-stands4 (suc (suc zero)) h = refl
-stands4 (suc (suc (suc zero))) h = refl
-stands4 (suc (suc (suc (suc k)))) h = absurd (omega arith)
-
-stands8 : (k : ℕ) → k ≤ 7 → get_or (0 ∷ 1 ∷ 2 ∷ 3 ∷ 4 ∷ 5 ∷ 6 ∷ 7 ∷ []) k 0 ≡ k
-stands8 zero h = refl
-stands8 (suc zero) h = refl
-stands8 (suc (suc zero)) h = refl
-stands8 (suc (suc (suc zero))) h = refl
-stands8 (suc (suc (suc (suc zero)))) h = refl
-stands8 (suc (suc (suc (suc (suc zero))))) h = refl
-stands8 (suc (suc (suc (suc (suc (suc zero)))))) h = refl
-stands8 (suc (suc (suc (suc (suc (suc (suc zero))))))) h = refl
-stands8 (suc (suc (suc (suc (suc (suc (suc (suc k)))))))) h = absurd (omega arith)
-
-pub numbers4 : (t : Float) → get_or (0 ∷ 1 ∷ 2 ∷ 3 ∷ []) (held_to 3 t) 0 ≡ held_to 3 t
-numbers4 t = stands4 (held_to 3 t) (held_le 3 t)
-
-pub numbers8 : (t : Float) → get_or (0 ∷ 1 ∷ 2 ∷ 3 ∷ 4 ∷ 5 ∷ 6 ∷ 7 ∷ []) (held_to 7 t) 0 ≡ held_to 7 t
-numbers8 t = stands8 (held_to 7 t) (held_le 7 t)

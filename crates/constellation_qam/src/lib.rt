@@ -1,11 +1,12 @@
 // The square constellations: levels, the nearest level of a part, the nearest point.
 #![tactic(auto)]
 
-ghost use Rattle.std.specs.Prelude.{◌≡◌, ℕ, ◌-◌, ◌<◌, ◌≤◌, cond, slice_index_or};
+ghost use Rattle.std.specs.Prelude.{◌≡◌, ◌-◌, ◌<◌, ◌≤◌, slice_index_or};
 ghost use Rattle.std.specs.Float.{nan};
 ghost use Rattle.definition.specs.Floats.{◌+f◌, ◌*f◌, complex};
 ghost use Rattle.definition.specs.Points.{held_to, level_of, qam_point};
 
+use std::num::saturating_f32_to_usize;
 use types::{C32, Qam};
 
 // The levels of 16-QAM, (2 i - 3) / sqrt(10), from the lowest up.
@@ -46,31 +47,22 @@ const QAM64: Grid<8> = Grid {
     half: 4.0,
 };
 
-fn pick<T: Copy>(b: bool, yes: T, no: T) -> T
-    ensures { result ≡ cond b yes no }
-{
-    if b { yes } else { no }
-}
-
 impl<const M: usize> Grid<M> {
-    // What stands in xs at the index of the level nearest to v, the floor of v's place held to 0 .. M - 1, by comparisons that select it: no branch. A NaN
-    // gives the first.
-    fn at<T: Copy>(&self, v: f32, xs: &[T; M]) -> T
-        ensures { (d : T) → result ≡ slice_index_or xs.now (held_to (M - 1) (v *f self.now.scale +f self.now.half)) d }
+    // The index of the level nearest to a part v: the floor of v's place on the grid, held to 0 .. M - 1. A NaN gives 0.
+    #[tactic(auto, using(crate::proofs::Levels::index_is, crate::proofs::Levels::held_le))]
+    fn index(&self, v: f32) -> usize
+        ensures value { result ≡ held_to (M - 1) (v *f self.now.scale +f self.now.half) }
+        ensures below { result < M }
     {
         let t = v * self.scale + self.half;
-        let mut r = xs[0];
-        for k in 1..M {
-            r = pick(t >= k as f32, xs[k], r);
-        }
-        r
+        saturating_f32_to_usize(t).min(M - 1)
     }
 
     // The level nearest to a part v.
     fn level(&self, v: f32) -> f32
         ensures { result ≡ slice_index_or self.now.levels (held_to (M - 1) (v *f self.now.scale +f self.now.half)) nan }
     {
-        self.at(v, &self.levels)
+        self.levels[self.index(v)]
     }
 
     // The point nearest to y, part by part.
@@ -87,16 +79,18 @@ impl<const M: usize> Grid<M> {
 }
 
 // The index of the level nearest to a part v: the floor of v * sqrt(E) / 2 + m / 2, held to 0 .. m - 1.
+#[tactic(auto, unfolding(definition::specs::Points::level_of))]
 pub fn decide_level(q: Qam, v: f32) -> u32
     ensures { result ≡ level_of q v }
 {
     match q {
-        Qam::Qam16 => QAM16.at(v, &[0, 1, 2, 3]),
-        Qam::Qam64 => QAM64.at(v, &[0, 1, 2, 3, 4, 5, 6, 7]),
+        Qam::Qam16 => QAM16.index(v) as u32,
+        Qam::Qam64 => QAM64.index(v) as u32,
     }
 }
 
 // The point of either nearest to y.
+#[tactic(auto, unfolding(definition::specs::Points::levels, definition::specs::Points::level_of, definition::specs::Points::level_at, definition::specs::Points::qam_point))]
 pub fn decide_qam(q: Qam, y: C32) -> C32
     ensures { result ≡ qam_point q y }
 {
