@@ -126,27 +126,32 @@ fn mean(mse: f32, e: C32) -> f32
     }
 }
 
-// The phase detector's value of the symbol z with the decision d. One that is not finite counts as 0.
-#[tactic(auto, unfolding(definition::specs::Sample::phase_error))]
-fn phase_error(z: C32, d: C32) -> f32
-    ensures { result ≡ phase_error z d }
-{
-    let p = z.im * d.re - z.re * d.im;
-    if numeric::is_finite(p) { p } else { 0.0 }
-}
-
-// The running numbers after the symbol z with the decision d, e apart.
+// The running numbers after the detector value p.
 #[tactic(auto, unfolding(crate::specs::Step::track_of, definition::specs::Sample::freq_after, definition::specs::Sample::phase_after))]
-fn tracked(s: EqualizeState, z: C32, d: C32, e: C32) -> Track
-    ensures { result ≡ track_of s (mse_after s.mse (norm e)) (phase_error z d) }
+fn turned(s: EqualizeState, mse: f32, p: f32) -> Track
+    ensures { result ≡ track_of s mse p }
 {
-    let p = phase_error(z, d);
     let freq = costas::integrate(s.freq + s.ki * p, EqualizeState::PHASE_MAX_FREQ);
     let turn = costas_step::phase_step_f32(freq + s.kp * p);
     Track {
-        mse: mean(s.mse, e),
+        mse,
         freq,
         phase: s.phase.wrapping_add(turn),
+    }
+}
+
+// The running numbers after the symbol z with the decision d, e apart. A detector value that is not finite counts as 0. Two calls: where p is chosen before one
+// call, the next sample waits for the choice, 3 ns.
+#[tactic(auto, unfolding(definition::specs::Sample::phase_error))]
+fn tracked(s: EqualizeState, z: C32, d: C32, e: C32) -> Track
+    ensures { result ≡ track_of s (mse_after s.mse (norm e)) (phase_error z d) }
+{
+    let p = z.im * d.re - z.re * d.im;
+    let mse = mean(s.mse, e);
+    if numeric::is_finite(p) {
+        turned(s, mse, p)
+    } else {
+        turned(s, mse, 0.0)
     }
 }
 
