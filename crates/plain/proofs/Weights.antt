@@ -17,10 +17,10 @@ module _ (u : Update) (n f : ℕ) (w h : List Float) where
   adapt_hold e = rw e
 
   module _ (gr gi : Float) (e : u ≡ Step gr gi) (v : List Float) (d : v ≡ updated n (complex gr gi) w h) (b : Bool) (t : b ≡ every finite v) where
-    pub adapt-kept : b ≡ true → v ≡ adapted u n f w h
+    pub adapt_kept : b ≡ true → v ≡ adapted u n f w h
     unfolding adapted reset_unless
-    adapt-kept y = rw (e, ← d, ← t, y)
+    adapt_kept y = rw (e, ← d, ← t, y)
 
-    pub adapt-reset : b ≡ false → (z : List Float) → z ≡ start_weights n (f / 2) → z ≡ adapted u n f w h
+    pub adapt_reset : b ≡ false → (z : List Float) → z ≡ start_weights n (f / 2) → z ≡ adapted u n f w h
     unfolding adapted reset_unless
-    adapt-reset y z k = rw (e, ← d, ← t, y) k
+    adapt_reset y z k = rw (e, ← d, ← t, y) k

@@ -18,13 +18,11 @@ ghost use Rattle.steps.specs.Step.{stage, did};
 ghost use Rattle.plain.specs.Taps.{Beside};
 
 // What the window stores: v, or zero where a part is not finite.
+#[tactic(auto, unfolding(definition::specs::Sample::sanitized))]
 fn sanitize(v: C32) -> C32
     ensures { result ≡ sanitized v }
 {
-    if numeric::finite_c(v) {
-        return v;
-    }
-    C32::ZERO
+    if numeric::finite_c(v) { v } else { C32::ZERO }
 }
 
 // Steps 4 to 7: a sample whose sum y is finite. Cosine and sine come before the powers: they need not wait behind those long sums.

@@ -8,16 +8,16 @@ use crate::counts::Taps;
 use types::{C32, Update};
 
 // The first n numbers move up by one, and v goes in at 0.
+#[tactic(auto, using(crate::proofs::Numbers::moved_none))]
 pub(crate) fn shift(x: &mut [f32], n: usize, v: C32)
     requires { 2 * n ≤ length x.old }
     ensures { x.new ≡ shifted n v x.old }
 {
-    let mut next = v;
-    for i in 0..n {
-        let old = complex::at(x, i);
-        complex::put(x, i, next);
-        next = old;
+    if n == 0 {
+        return;
     }
+    x.copy_within(..2 * (n - 1), 2);
+    complex::put(x, 0, v);
 }
 
 // The power of the first n numbers, summed in their order, where `first` is the sum of the first `from`.
@@ -53,6 +53,7 @@ fn renew(w: &mut [f32], x: &[f32], g: C32, n: usize)
 }
 
 // The weights after an update. One that is not finite sets them all to the start weights.
+#[tactic(auto, using(crate::proofs::Weights::adapt_hold, crate::proofs::Weights::adapt_reset, crate::proofs::Weights::adapt_kept))]
 pub(crate) fn update_weights(u: Update, w: &mut [f32], x: &[f32], taps: Taps)
     requires { (length w.old ≡ 2 * taps.all) × (2 * taps.all ≤ length x.now) }
     ensures { w.new ≡ adapted u taps.all taps.forward w.old x.now }
