@@ -19,10 +19,10 @@ use Rattle.capi_numbers.proofs.Facts.{record_ok, record_err}
 use Rattle.capi.specs.Raw.{block, block_out, equalize_raw}
 
 module _ (p : EqRecord) (r : EqReply) where
-  pub block_unknown : (x : UnknownNumber) → read_record p ≡ Err x → (w h xs ys : List Float) (ms : List ℕ) (e : Bool) → e ≡ (even (length w) && even (length h) && even (length xs) && even (length ys))
-      → r ≡ replied p (unknown e) → block r w h ys ms ≡ equalize_raw p w h xs ys ms
+  pub block_unknown : (x : UnknownNumber) → read_record p ≡ Err x → (w h xs ys : List Float) (ms : List ℕ)
+      → r ≡ replied p (unknown (even (length w) && even (length h) && even (length xs) && even (length ys))) → block r w h ys ms ≡ equalize_raw p w h xs ys ms
   unfolding equalize_raw
-  block_unknown x n w h xs ys ms e y d = rw (record_err p x n, d, y)
+  block_unknown x n w h xs ys ms d = rw (record_err p x n, d)
 
   pub block_known : (s : EqualizeState) → read_record p ≡ Ok s → (e : Equalized) → r ≡ replied (record_out e.state) (reply_of e.outcome)
       → (w h xs ys : List Float) (ms : List ℕ) (w' h' ys' : List Float) (ms' : List ℕ) → answered e w' h' ys' ms' ≡ equalize_def (equalizer s w h) xs ys ms

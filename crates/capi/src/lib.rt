@@ -1,7 +1,9 @@
 // The equalizer with the record as numbers, by value: what `capi_c` exports for C and Rust.
 #![tactic(auto)]
 
-ghost use Rattle.std.specs.Prelude.{◌≡◌};
+ghost use Rattle.std.specs.Prelude.{◌≡◌, ◌&&◌, length};
+ghost use Rattle.definition.specs.Calls.{even};
+ghost use Rattle.capi_numbers.specs.RawRecord.{replied, unknown as unknownDef};
 ghost use Rattle.capi_state.specs.Raw.{filter, new_raw, reset_raw, set_mu_cma_raw, set_mu_dd_raw, set_frequency_raw};
 ghost use Rattle.capi.specs.Raw.{block, eq_reference, eq_equalize, PromisedRaw};
 
@@ -43,7 +45,17 @@ pub fn eq_set_frequency(raw: EqRecord, freq: f32) -> EqReply
     capi_state::set_frequency(raw, freq)
 }
 
+// The reply to a record with an unknown number: 1 where a slice is odd, else 8.
+fn unknown(raw: EqRecord, weights: &[f32], window: &[f32], input: &[f32], output: &[f32]) -> EqReply
+    ensures { result ≡ replied raw
+        (unknownDef (even (length weights.now) && even (length window.now) && even (length input.now) && even (length output.now))) }
+{
+    let evens = record_verdict::all_even(weights.len(), window.len(), input.len(), output.len());
+    EqReply::unknown(raw, evens)
+}
+
 // A block of samples: the quick path without feedback taps, the joint path with them. Same answer as `eq_reference`.
+#[tactic(auto, using(crate::proofs::Laws::block_unknown))]
 pub fn eq_equalize(
     raw: EqRecord,
     weights: &mut [f32],
@@ -56,19 +68,14 @@ pub fn eq_equalize(
         (block result weights.new window.new output.new marks.new) }
 {
     let Ok(state) = EqualizeState::try_from(raw) else {
-        let evens = record_verdict::all_even(
-            weights.len(),
-            window.len(),
-            input.len(),
-            output.len(),
-        );
-        return EqReply::unknown(raw, evens);
+        return unknown(raw, weights, window, input, output);
     };
     let e = equalize::equalize(state, weights, window, input, output, marks);
     EqReply::from(e)
 }
 
-// A block of samples by the plain path. Refusals 1, 8, 9 and 10. Two calls of C, each with its path; a function over both would say no more than these lines.
+// A block of samples by the plain path. Refusals 1, 8, 9 and 10.
+#[tactic(auto, using(crate::proofs::Laws::block_unknown))]
 pub fn eq_reference(
     raw: EqRecord,
     weights: &mut [f32],
@@ -81,13 +88,7 @@ pub fn eq_reference(
         (block result weights.new window.new output.new marks.new) }
 {
     let Ok(state) = EqualizeState::try_from(raw) else {
-        let evens = record_verdict::all_even(
-            weights.len(),
-            window.len(),
-            input.len(),
-            output.len(),
-        );
-        return EqReply::unknown(raw, evens);
+        return unknown(raw, weights, window, input, output);
     };
     let e = equalize::reference::equalize(state, weights, window, input, output, marks);
     EqReply::from(e)

@@ -11,7 +11,7 @@ use types::{
 
 // The settings. Constellations: 0 BPSK, 1 QPSK, 2 8-PSK, 3 16-QAM, 4 64-QAM.
 #[repr(C)]
-#[derive(Clone, Copy)]
+#[derive(Clone, Copy, Default)]
 pub struct EqSettings {
     pub phase_bw: f64,
     pub feedback_taps: usize,
@@ -23,7 +23,7 @@ pub struct EqSettings {
 
 // The record. Modes: 0 Cma, 1 Decision.
 #[repr(C)]
-#[derive(Clone, Copy)]
+#[derive(Clone, Copy, Default)]
 pub struct EqRecord {
     pub settings: EqSettings,
     pub kp: f32,
@@ -73,12 +73,15 @@ impl EqSettings {
 impl TryFrom<EqSettings> for EqParams {
     type Error = UnknownNumber;
 
-    #[tactic(auto, unfolding(crate::specs::RawRecord::known_settings))]
+    #[tactic(auto, unfolding(crate::specs::RawRecord::known_settings, crate::specs::RawRecord::settings_in))]
     fn try_from(p: EqSettings) -> Result<EqParams, UnknownNumber>
         ensures { result ≡ read_settings p }
     {
-        EqConstellation::try_from(p.constellation)?;
-        Ok(p.params())
+        let constellation = EqConstellation::try_from(p.constellation)?;
+        Ok(EqParams {
+            constellation,
+            ..p.params()
+        })
     }
 }
 
@@ -88,24 +91,7 @@ impl EqRecord {
     pub fn none() -> EqRecord
         ensures { result ≡ no_record }
     {
-        let settings = EqSettings {
-            phase_bw: 0.0,
-            feedback_taps: 0,
-            constellation: 0,
-            mu_cma: 0.0,
-            mu_dd: 0.0,
-            cma_symbols: 0,
-        };
-        EqRecord {
-            settings,
-            kp: 0.0,
-            ki: 0.0,
-            mode: 0,
-            count: 0,
-            mse: 0.0,
-            phase: 0,
-            freq: 0.0,
-        }
+        EqRecord::default()
     }
 
     // Whether the numbers of the constellation and the mode are known.
@@ -137,12 +123,17 @@ impl EqRecord {
 impl TryFrom<EqRecord> for EqualizeState {
     type Error = UnknownNumber;
 
+    #[tactic(auto, unfolding(crate::specs::RawRecord::record_in))]
     fn try_from(r: EqRecord) -> Result<EqualizeState, UnknownNumber>
         ensures { result ≡ read_record r }
     {
-        EqParams::try_from(r.settings)?;
-        EqMode::try_from(r.mode)?;
-        Ok(r.state())
+        let params = EqParams::try_from(r.settings)?;
+        let mode = EqMode::try_from(r.mode)?;
+        Ok(EqualizeState {
+            params,
+            mode,
+            ..r.state()
+        })
     }
 }
 
@@ -201,16 +192,17 @@ impl EqReply {
     fn refused(record: EqRecord, e: Error) -> EqReply
         ensures { result ≡ replied «record» (reply_of (Err e)) }
     {
-        let none = Lengths {
-            expected: 0,
-            got: 0,
-        };
-        let l = e.lengths().unwrap_or(none);
-        EqReply {
-            record,
+        let reply = EqReply {
             number: u32::from(e),
-            expected: l.expected,
-            got: l.got,
+            ..EqReply::served(record)
+        };
+        match e.lengths() {
+            Some(Lengths { expected, got }) => EqReply {
+                expected,
+                got,
+                ..reply
+            },
+            None => reply,
         }
     }
 

@@ -22,10 +22,10 @@ use Rattle.capi_state.specs.Raw.{filter, new_out, new_raw, reset_out, reset_raw,
 -- ---- new
 
 module _ (p : EqSettings) (w h : List Float) (r : EqReply) where
-  pub new_unknown : (x : UnknownNumber) (e : Bool) (t : EqRecord) → read_settings p ≡ Err x → t ≡ no_record → e ≡ (even (length w) && even (length h)) → r ≡ replied t (unknown e)
+  pub new_unknown : (x : UnknownNumber) (t : EqRecord) → read_settings p ≡ Err x → t ≡ no_record → r ≡ replied t (unknown (even (length w) && even (length h)))
       → filter r w h ≡ new_raw p w h
   unfolding new_raw
-  new_unknown x e t n a y d = rw (settings_err p x n, d, a, y)
+  new_unknown x t n a d = rw (settings_err p x n, d, a)
 
   pub new_known : (q : EqParams) (f : Fresh) (w' h' : List Float) → read_settings p ≡ Ok q → made f w' h' ≡ new_def q w h → r ≡ replied (fresh_out f) (fresh_reply f)
       → filter r w' h' ≡ new_raw p w h
@@ -36,9 +36,9 @@ module _ (p : EqSettings) (w h : List Float) (r : EqReply) where
 
 module _ (p : EqRecord) (r : EqReply) where
   module _ (x : UnknownNumber) (n : read_record p ≡ Err x) where
-    pub reset_unknown : (w h : List Float) (e : Bool) → e ≡ (even (length w) && even (length h)) → r ≡ replied p (unknown e) → filter r w h ≡ reset_raw p w h
+    pub reset_unknown : (w h : List Float) → r ≡ replied p (unknown (even (length w) && even (length h))) → filter r w h ≡ reset_raw p w h
     unfolding reset_raw
-    reset_unknown w h e y d = rw (record_err p x n, d, y)
+    reset_unknown w h d = rw (record_err p x n, d)
 
     pub cma_unknown : (mu : Float) → r ≡ replied p (unknown true) → r ≡ set_mu_cma_raw p mu
     unfolding set_mu_cma_raw

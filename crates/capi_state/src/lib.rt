@@ -1,7 +1,9 @@
 // The calls of C that take no samples, from the record as numbers; `capi` calls them and says which numbers each refuses with.
 #![tactic(auto)]
 
-ghost use Rattle.std.specs.Prelude.{◌≡◌};
+ghost use Rattle.std.specs.Prelude.{◌≡◌, ◌&&◌, length};
+ghost use Rattle.definition.specs.Calls.{even};
+ghost use Rattle.capi_numbers.specs.RawRecord.{replied, unknown as unknownDef};
 ghost use Rattle.capi_state.specs.Raw.{filter, new_raw, reset_raw, set_mu_cma_raw, set_mu_dd_raw, set_frequency_raw};
 
 use capi_numbers::{EqRecord, EqReply, EqSettings};
@@ -9,16 +11,23 @@ use types::{EqParams, EqualizeState};
 
 // Each promise stands here, in `capi` and in `capi_c`: an exported function says its own.
 
+// The reply of a call that takes weights and window to an unknown number: 1 where one is odd, else 8.
+fn unknown(record: EqRecord, weights: &[f32], window: &[f32]) -> EqReply
+    ensures { result ≡ replied «record» (unknownDef (even (length weights.now) && even (length window.now))) }
+{
+    EqReply::unknown(
+        record,
+        record_verdict::both_even(weights.len(), window.len()),
+    )
+}
+
 // A new equalizer.
 #[tactic(auto, using(crate::proofs::Laws::new_unknown, crate::proofs::Laws::new_known))]
 pub fn new(settings: EqSettings, weights: &mut [f32], window: &mut [f32]) -> EqReply
     ensures { filter result weights.new window.new ≡ new_raw settings weights.old window.old }
 {
     let Ok(params) = EqParams::try_from(settings) else {
-        return EqReply::unknown(
-            EqRecord::none(),
-            record_verdict::both_even(weights.len(), window.len()),
-        );
+        return unknown(EqRecord::none(), weights, window);
     };
     EqReply::from(equalize_state::new(weights, window, params))
 }
@@ -29,7 +38,7 @@ pub fn reset(raw: EqRecord, weights: &mut [f32], window: &mut [f32]) -> EqReply
     ensures { filter result weights.new window.new ≡ reset_raw raw weights.old window.old }
 {
     let Ok(state) = EqualizeState::try_from(raw) else {
-        return EqReply::unknown(raw, record_verdict::both_even(weights.len(), window.len()));
+        return unknown(raw, weights, window);
     };
     EqReply::from(equalize_state::reset(state, weights, window))
 }

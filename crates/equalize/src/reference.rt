@@ -2,10 +2,10 @@
 ghost use Rattle.definition.specs.Packed.{equalizer, answered};
 ghost use Rattle.definition.specs.Paths.{plain, Promised};
 
+use crate::{Way, equalize_by};
 use types::{EqualizeState, Equalized};
 
-// A block of samples by the plain path, or a refusal that leaves all as it was. Beside `equalize` it has another path and nothing else: a function over the path
-// would take more lines than both have.
+// A block of samples by the plain path, or a refusal that leaves all as it was.
 pub fn equalize(
     state: EqualizeState,
     weights: &mut [f32],
@@ -17,15 +17,5 @@ pub fn equalize(
     ensures { Promised plain (equalizer state weights.old window.old) input.now output.old marks.old
         (answered result weights.new window.new output.new marks.new) }
 {
-    if let Err(e) = record_verdict::verdict(
-        state,
-        weights,
-        window,
-        input.len(),
-        output.len(),
-        marks.len(),
-    ) {
-        return Equalized::refused(state, e);
-    }
-    Equalized::served(plain::block(state, weights, window, input, output, marks))
+    equalize_by(Way::Samples, state, weights, window, input, output, marks)
 }
