@@ -1,28 +1,123 @@
--- The floor of a float held to 0 .. k, by the library's conversion. Assumes nothing.
-use mathlib.Core.Path.{◌≡◌, refl}
-use mathlib.Core.Bool.{true, false}
-use Prim.Native.Nat.{ℕ, ◌-◌, ◌*◌, ◌/◌, ◌^◌, ◌≤◌, ◌<◌, min}
-use native.Mathlib.Nat.{min-le_left}
+-- The floor of a float held to 0 .. k, by comparisons with 1, 2 and so on. Assumes nothing.
+use mathlib.Core.Path.{◌≡◌, refl, sym, ap, ◌∙◌, subst}
+use mathlib.Core.Bool.{Bool, true, false}
+use Prim.Native.Nat.{ℕ, zero, suc, ◌+◌, ◌-◌, ◌*◌, ◌/◌, ◌^◌, ◌≤◌, ◌<◌, min}
+use native.Mathlib.Nat.{add-zero, le_of_eq, le_antisymm, mul-one, le-min, le-div_iff_mul-le, div-lt_iff_lt-mul, lt_of_le_of_lt, min-le_right, min-le_left, zero-mul, le_of_mul-le-mul_right}
 use native.Mathlib.Omega.{arith}
-use lib.Ieee.{Float, nan, inf, fin, up, down, to_unsigned}
+use lib.IntN.{pos}
+use lib.Count.{count_trailing_zeros}
+use lib.Dec.{T, eqb, eqb→eq}
+use mir.Val.{bool_byte as from_bool}
+use lib.Ieee.{Float, nan, inf, fin, binary32, of_int, odd, round, units, size, span, climb, up, down, lt, le, eq}
+use lib.Ieee.Fits.{down_pos, and_r}
+use Rattle.laws.specs.Order.{le_yes, le_no}
 use Rattle.definition.specs.Points.{held_to}
 
--- one end within the other
-within : (q a b : ℕ) → b < a → min (min q (a - 1)) b ≡ min b q
-within q a b h = omega arith
+-- ---- a comparison with the whole number n * 2 ^ j, as a fact on the floor
 
-pub index_is : (top : ℕ) (t : Float) → top < 2 ^ 64 → min (to_unsigned 64 t) top ≡ held_to top t
-unfolding to_unsigned held_to
-index_is top nan h = omega arith
-index_is top (inf true) h = omega arith
-index_is top (inf false) h = omega (arith, h)
-index_is top (fin true m e) h = omega arith
-index_is top (fin false m e) h = within (m * up e / down e) (2 ^ 64) top h
+at_least : (top n j : ℕ) (t : Float) → n * 2 ^ j ≤ top → le (fin false n (pos j)) t ≡ true → n * 2 ^ j ≤ held_to top t
+unfolding le lt eq held_to
+at_least top n j nan g h = absurd (subst T (sym h) tt)
+at_least top n j (inf true) g h = absurd (subst T (sym h) tt)
+at_least top n j (inf false) g h = g
+at_least top n j (fin true m e) g h =
+    let a = n * 2 ^ j * down e in
+    let z : a ≡ 0 = eqb→eq a 0 (and_r (eqb a (m * up e * 1)) (eqb a 0) (subst T (sym h) tt)) in
+    le_of_mul-le-mul_right (le_of_eq (z ∙ sym (zero-mul (down e)))) (down_pos e)
+at_least top n j (fin false m e) g h =
+    le-min g ((le-div_iff_mul-le (down_pos e)).1 (subst (λ (x : ℕ). n * 2 ^ j * down e ≤ x) (mul-one (m * up e)) (le_yes _ _ h)))
+
+-- false too of a NaN, whose floor counts as 0
+under : (top n j : ℕ) (t : Float) → 0 < n * 2 ^ j → le (fin false n (pos j)) t ≡ false → held_to top t < n * 2 ^ j
+unfolding le lt eq held_to
+under top n j nan g h = g
+under top n j (inf true) g h = g
+under top n j (inf false) g h = absurd (subst T h tt)
+under top n j (fin true m e) g h = g
+under top n j (fin false m e) g h =
+    lt_of_le_of_lt (min-le_right top (m * up e / down e)) ((div-lt_iff_lt-mul (down_pos e)).1 (subst (λ (x : ℕ). x < n * 2 ^ j * down e) (mul-one (m * up e)) (le_no _ _ h)))
 
 pub held_le : (top : ℕ) (t : Float) → held_to top t ≤ top
 unfolding held_to
 held_le top nan = omega arith
 held_le top (inf true) = omega arith
-held_le top (inf false) = omega arith
+held_le top (inf false) = le_of_eq refl
 held_le top (fin true m e) = omega arith
 held_le top (fin false m e) = min-le_left top (m * up e / down e)
+
+-- ---- one place more: the floor held to k, of the floor held to k - 1
+
+-- the float of k, from 1 to 7, is exact
+exact : (k : ℕ) → 1 ≤ k → k < 8 → (n : ℕ) × (j : ℕ) × (of_int binary32 (pos k) ≡ fin false n (pos j)) × (n * 2 ^ j ≡ k)
+unfolding of_int odd count_trailing_zeros round units size span climb
+exact zero a b = absurd (omega arith)
+exact (suc zero) a b = (1, 0, refl, refl)
+exact (suc (suc zero)) a b = (1, 1, refl, refl)
+exact (suc (suc (suc zero))) a b = (3, 0, refl, refl)
+exact (suc (suc (suc (suc zero)))) a b = (1, 2, refl, refl)
+exact (suc (suc (suc (suc (suc zero))))) a b = (5, 0, refl, refl)
+exact (suc (suc (suc (suc (suc (suc zero)))))) a b = (3, 1, refl, refl)
+exact (suc (suc (suc (suc (suc (suc (suc zero))))))) a b = (7, 0, refl, refl)
+exact (suc (suc (suc (suc (suc (suc (suc (suc k)))))))) a b = absurd (omega arith)
+
+lower_min : (k q : ℕ) → min k q < k → min k q ≡ min (k - 1) q
+lower_min k q h = omega arith
+
+lower : (k : ℕ) (t : Float) → held_to k t < k → held_to k t ≡ held_to (k - 1) t
+unfolding held_to
+lower k nan h = refl
+lower k (inf true) h = refl
+lower k (inf false) h = absurd (omega arith)
+lower k (fin true m e) h = refl
+lower k (fin false m e) h = lower_min k (m * up e / down e) h
+
+positive : (k : ℕ) → 1 ≤ k → 0 < k
+positive k h = omega arith
+
+abbrev reached : ℕ → Float → Bool
+reached k t = le (of_int binary32 (pos k)) t
+
+up_to : (k : ℕ) (t : Float) → 1 ≤ k → k < 8 → reached k t ≡ true → held_to k t ≡ k
+up_to k t a b h =
+    let e = exact k a b in
+    le_antisymm (held_le k t) (subst (λ (x : ℕ). x ≤ held_to k t) e.3 (at_least k e.0 e.1 t (le_of_eq e.3) (subst (λ (x : Float). le x t ≡ true) e.2 h)))
+
+same : (k : ℕ) (t : Float) → 1 ≤ k → k < 8 → reached k t ≡ false → held_to k t ≡ held_to (k - 1) t
+same k t a b h =
+    let e = exact k a b in
+    lower k t
+    (subst (λ (x : ℕ). held_to k t < x) e.3
+    (under k e.0 e.1 t (subst (λ (x : ℕ). 0 < x) (sym e.3) (positive k a)) (subst (λ (x : Float). le x t ≡ false) e.2 h)))
+
+none : (t : Float) → held_to 0 t ≡ 0
+none t = le_antisymm (held_le 0 t) (omega arith)
+
+-- the floor held to k - 1, of the floor held to k
+less : (k : ℕ) (t : Float) → held_to (k - 1) t ≡ min (k - 1) (held_to k t)
+unfolding held_to
+less k nan = omega arith
+less k (inf true) = omega arith
+less k (inf false) = omega arith
+less k (fin true m e) = omega arith
+less k (fin false m e) = small k (m * up e / down e)
+  where
+    small : (k q : ℕ) → min (k - 1) q ≡ min (k - 1) (min k q)
+    small k q = omega arith
+
+pub at_none : (m : ℕ) (t : Float) → m ≡ 0 → 0 ≡ held_to m t
+at_none m t e = rw e (sym (none t))
+
+pub one_le : (c : Bool) → from_bool c ≤ 1
+one_le true = omega arith
+one_le false = omega arith
+
+-- one place more
+pub next : (k m n b : ℕ) (t : Float) → 1 ≤ k → k < 8 → m ≡ k → n ≡ held_to (k - 1) t → b ≡ from_bool (reached k t) → n + b ≡ held_to m t
+next k m n b t l h s e d = go (reached k t) refl
+  where
+    went : (q : ℕ) → q ≡ k → n ≡ min (k - 1) q → b ≡ 1 → n + b ≡ q
+    went q u v w = omega arith
+
+    go : (c : Bool) → reached k t ≡ c → n + b ≡ held_to m t
+    go true p = went (held_to m t) (rw s (up_to k t l h p)) (e ∙ less k t ∙ rw s refl) (d ∙ ap from_bool p)
+    go false p = rw (d, p, s, same k t l h p) (rw e (add-zero (held_to (k - 1) t)))

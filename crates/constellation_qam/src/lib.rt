@@ -6,7 +6,6 @@ ghost use Rattle.std.specs.Float.{nan};
 ghost use Rattle.definition.specs.Floats.{◌+f◌, ◌*f◌, complex};
 ghost use Rattle.definition.specs.Points.{held_to, level_of, qam_point};
 
-use std::num::saturating_f32_to_usize;
 use types::{C32, Qam};
 
 // The levels of 16-QAM, (2 i - 3) / sqrt(10), from the lowest up.
@@ -48,14 +47,18 @@ const QAM64: Grid<8> = Grid {
 };
 
 impl<const M: usize> Grid<M> {
-    // The index of the level nearest to a part v: the floor of v's place on the grid, held to 0 .. M - 1. A NaN gives 0.
-    #[tactic(auto, using(crate::proofs::Levels::index_is, crate::proofs::Levels::held_le))]
+    // The index of the level nearest to a part v: how many of the places 1 .. M - 1 of the grid v's place reaches. That is its floor, held to 0 .. M - 1. A NaN
+    // gives 0.
     fn index(&self, v: f32) -> usize
         ensures value { result ≡ held_to (M - 1) (v *f self.now.scale +f self.now.half) }
         ensures below { result < M }
     {
         let t = v * self.scale + self.half;
-        saturating_f32_to_usize(t).min(M - 1)
+        let mut n = 0;
+        for k in 1..M {
+            n += usize::from(t >= k as f32);
+        }
+        n
     }
 
     // The level nearest to a part v.
