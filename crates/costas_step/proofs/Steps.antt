@@ -1,9 +1,8 @@
 -- What the code of the phase step works out, against the definition. Assumes nothing.
-use Rattle.std.proofs.Common.{◌≡◌, ℕ, suc, ◌+◌, ◌-◌, ◌*◌, ◌/◌, ◌%◌, ◌^◌, ◌<◌, ◌≤◌, Bool, true, false, cond, not, T, leb, sym, refl, ap, ◌∙◌, subst, inl, inr, le_trans, lt_trans, le_of_eq, le_refl, lt_of_lt_of_le, le-add_right, lt_of_le_of_lt, add-le-add, mod-lt, mul_assoc, div-lt_iff_lt-mul, mul-le-mul, pow-suc, le-div_iff_mul-le, div-le_self, mul_left_comm, arith, lit<, lit≤, pow_pos, pow_mono, pow-add, shl_lt, shl_exact, le-leb}
+use Rattle.std.proofs.Common.{◌≡◌, ℕ, suc, ◌+◌, ◌-◌, ◌*◌, ◌/◌, ◌%◌, ◌^◌, ◌<◌, ◌≤◌, Bool, true, false, cond, not, T, leb, sym, refl, ap, ◌∙◌, subst, inl, inr, le_trans, lt_trans, le_of_eq, le_refl, lt_of_lt_of_le, le-add_right, lt_of_le_of_lt, add-le-add, mod-lt, mul_assoc, div-lt_iff_lt-mul, mul-le-mul, pow-suc, le-div_iff_mul-le, mul_left_comm, arith, lit<, lit≤, pow_pos, pow_mono, pow-add, shl_lt, shl_exact}
 use native.Mathlib.Nat.{mul-mod_left, div-eq_of_lt, pow-succ', div-div-eq-div-mul, add-div_right}
 use lib.Pow.{field}
-use lib.Bits.{bit_and, bit_or, and_mask, mask_lt, or_shifted_r}
-use borrow.Author.Tests.{lt-leb}
+use lib.Bits.{bit_and, bit_or, and_mask, or_shifted_r}
 use lib.Ieee.{Float, nan, inf, fin, binary32, fits, is_nan, to_bits}
 use lib.Ieee.Exact.{HasValue}
 use Rattle.std.specs.Float.{is_sign_negative}
@@ -52,9 +51,6 @@ module _ (n g x : ℕ) (n1 : n ≤ 1) (lo : 94 ≤ x) (hi : x ≤ 140) (g1 : 1 �
   some : n ≤ S
   some = omega arith
 
-  pub no_borrow : n ≤ g * 2 ^ 39 % 2 ^ 64
-  no_borrow = subst (λ (y : ℕ). n ≤ y) (sym up_is) some
-
   below : x < 157
   below = omega arith
 
@@ -76,15 +72,6 @@ module _ (n g x : ℕ) (n1 : n ≤ 1) (lo : 94 ≤ x) (hi : x ≤ 140) (g1 : 1 �
   part =
       and_mask (((g * 2 ^ 39 % 2 ^ 64 - n) / P + 1) / 2) 32
       ∙ ap (λ (y : ℕ). y % 2 ^ 32) (ap (λ (y : ℕ). ((y - n) / P + 1) / 2) up_is ∙ sym halved ∙ sym (mag_part 157 n S x n1 below) ∙ mag_more n g x n1)
-
-  pub sum_fits : (g * 2 ^ 39 % 2 ^ 64 - n) / 2 ^ (156 - x) + 1 < 2 ^ 64
-  sum_fits = subst (λ (y : ℕ). (y - n) / P + 1 < 2 ^ 64) (sym up_is) (go ((S - n) / P) (div-le_self (S - n) P))
-    where
-      go : (q : ℕ) → q ≤ S - n → q + 1 < 2 ^ 64
-      go q h = omega arith
-
-  pub part-fits : bit_and (((g * 2 ^ 39 % 2 ^ 64 - n) / 2 ^ (156 - x) + 1) / 2) (2 ^ 32 - 1) < 2 ^ 32
-  part-fits = mask_lt (((g * 2 ^ 39 % 2 ^ 64 - n) / P + 1) / 2) 32
 
 -- ---- the size of a / 2 ^ 118 rounded
 
@@ -123,9 +110,6 @@ sig_lt b = subst (λ (y : ℕ). y < 2 ^ 24) (sig_is b) (go (b % 2 ^ 23) (mod-lt 
   where
     go : (t : ℕ) → t < 2 ^ 23 → 2 ^ 23 + t < 2 ^ 24
     go t h = omega arith
-
-pub sig_some : (b : ℕ) → 1 ≤ bit_or (bit_and b (2 ^ 23 - 1)) (2 ^ 23)
-sig_some b = subst (λ (y : ℕ). 1 ≤ y) (sig_is b) (le_trans (lit≤ tt) (le-add_right (2 ^ 23) (b % 2 ^ 23)))
 
 -- ---- the three answers
 

@@ -1,13 +1,10 @@
 -- At phase 0 the table gives exactly (1, 0), by computation, so step 4 needs no test there. Assumes nothing.
 use mathlib.Core.Path.{◌≡◌, refl, ◌∙◌}
-use Prim.Native.Nat.{ℕ, zero, suc, ◌+◌, ◌-◌, ◌/◌, ◌%◌, ◌^◌, ◌≤◌}
+use Prim.Native.Nat.{ℕ, zero, suc, ◌+◌, ◌/◌, ◌%◌}
 use native.Mathlib.Omega.{arith}
-use lib.Dec.{T, le→leb}
-use lib.IntN.{pos}
-use lib.Bits.{bit_and, and_mask}
 use borrow.Author.Tests.{ne_eqb}
 use lib.Count.{count_trailing_zeros}
-use lib.Ieee.{Float, binary32, in_float, of_bits, of_fields, odd, of_int, add, sub, mul, neg, sum, round, units, size, span, climb}
+use lib.Ieee.{Float, of_bits, of_fields, odd, of_int, add, sub, mul, neg, sum, round, units, size, span, climb}
 use Rattle.tables.specs.Table.{cos_at, cos_bits}
 use Rattle.types.specs.Bits.{zero32, one32}
 use Rattle.definition.specs.Phase.{low_part, line_at, interp_pair, cos_sin}
@@ -29,11 +26,3 @@ module _ (p i : ℕ) (f a b : Float) (low : f ≡ low_part p) (first : a ≡ lin
 
   pub turn_is : record { c = a; s = b } ≡ cos_sin p
   turn_is = pair_is ∙ cos_sin_is p
-
--- the low 20 bits, a mask in the code, are exact in f32
-pub low_fits : (p : ℕ) → T (in_float binary32 (pos (bit_and p (2 ^ 20 - 1))))
-unfolding in_float
-low_fits p = rw (and_mask p 20) (le→leb (p % 2 ^ 20) (2 ^ 24) (low_le p))
-  where
-    low_le : (p : ℕ) → p % 2 ^ 20 ≤ 2 ^ 24
-    low_le p = omega arith

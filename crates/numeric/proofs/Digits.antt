@@ -1,14 +1,14 @@
 -- What the code's shifts and masks work out. Assumes nothing.
 use mathlib.Core.Path.{◌≡◌, refl, sym, ap, ◌∙◌, subst}
-use mathlib.Core.Bool.{Bool, true, false, not, cond}
+use mathlib.Core.Bool.{Bool, true, false, not}
 use Prim.Native.Nat.{ℕ, suc, ◌+◌, ◌-◌, ◌*◌, ◌/◌, ◌%◌, ◌^◌, ◌≤◌, ◌<◌}
-use native.Mathlib.Nat.{le_trans, le_of_eq, le_antisymm, lt_of_lt_of_le, one-mul, mod-eq_of_lt, pow-succ', zero-add}
+use native.Mathlib.Nat.{le_trans, le_of_eq, le_antisymm, one-mul, mod-eq_of_lt, pow-succ'}
 use native.Mathlib.Numerals.{add-one}
 use native.Mathlib.Omega.{arith}
-use lib.Dec.{T, leb}
-use lib.Pow.{pow_pos, pow_mono, pow-lt, shr_lt}
-use lib.Bits.{bit_and, bit_or, and_mask, and_le_l, or_shifted_r}
-use borrow.Author.Tests.{le-leb, lt-leb, le-ltb}
+use lib.Dec.{T}
+use lib.Pow.{pow-lt}
+use lib.Bits.{bit_and, bit_or, and_mask, or_shifted_r}
+use borrow.Author.Tests.{le-ltb}
 use lib.Ieee.{Float, nan, inf, fin, binary32, nan_bits, is_nan, of_bits}
 use lib.Ieee.Bits.{nan_bits_above}
 use lib.Ieee.Nearest.{closest}
@@ -19,9 +19,6 @@ use Rattle.definition.specs.Floats.{narrow}
 module _ (g d : ℕ) (one : 1 ≤ d) (D : d < 64) where
   pub bit_is : 1 * 2 ^ d % 2 ^ 64 ≡ 2 ^ d
   bit_is = ap (λ (y : ℕ). y % 2 ^ 64) (one-mul (2 ^ d)) ∙ mod-eq_of_lt (pow-lt D)
-
-  pub bit-some : 1 ≤ 1 * 2 ^ d % 2 ^ 64
-  bit-some = subst (λ (y : ℕ). 1 ≤ y) (sym bit_is) (pow_pos d)
 
   rest-is : bit_and g (1 * 2 ^ d % 2 ^ 64 - 1) ≡ g % 2 ^ d
   rest-is = ap (λ (y : ℕ). bit_and g (y - 1)) bit_is ∙ and_mask g d
@@ -47,25 +44,6 @@ module _ (g d : ℕ) (one : 1 ≤ d) (D : d < 64) where
   pub tie : 1 * 2 ^ (d - 1) % 2 ^ 64 ≤ bit_and g (1 * 2 ^ d % 2 ^ 64 - 1) → bit_and g (1 * 2 ^ d % 2 ^ 64 - 1) ≤ 1 * 2 ^ (d - 1) % 2 ^ 64 → g / 2 ^ d + bit_and (g / 2 ^ d) 1 ≡ closest g (2 ^ d)
   tie a b = ap (λ (y : ℕ). g / 2 ^ d + y) (and_mask (g / 2 ^ d) 1) ∙ closest-tie g (2 ^ d) (2 ^ (d - 1)) even (sym rest-is ∙ le_antisymm b a ∙ half_is)
 
-  module _ (G : g < 2 ^ 64) where
-    quotient-lt : g / 2 ^ d < 2 ^ 63
-    quotient-lt = shr_lt 63 d (lt_of_lt_of_le G (pow_mono room))
-      where
-        room : 64 ≤ 63 + d
-        room = omega arith
-
-    pub up_fits : g / 2 ^ d + 1 < 2 ^ 64
-    up_fits = go (g / 2 ^ d) quotient-lt
-      where
-        go : (q : ℕ) → q < 2 ^ 63 → q + 1 < 2 ^ 64
-        go q h = omega arith
-
-    pub tie-fits : (m : ℕ) → g / 2 ^ d + bit_and (g / 2 ^ d) m < 2 ^ 64
-    tie-fits m = go (g / 2 ^ d) (bit_and (g / 2 ^ d) m) quotient-lt (and_le_l (g / 2 ^ d) m)
-      where
-        go : (q r : ℕ) → q < 2 ^ 63 → r ≤ q → q + r < 2 ^ 64
-        go q r h k = omega arith
-
 -- ---- `with_sign`
 module _ (p : ℕ) (P : p ≤ 0x7f80_0000) where
   rest_plain : p % 2 ^ 31 ≡ p
@@ -88,18 +66,6 @@ module _ (p : ℕ) (P : p ≤ 0x7f80_0000) where
 
   pub signed_ok : T (not (nan_bits binary32 (bit_or p (2 ^ 31))))
   signed_ok = subst (λ (n : ℕ). T (not (nan_bits binary32 n))) (sym or_is) (no_nan (2 ^ 31 + p) rest-signed)
-
-  pub signed-fits : bit_or p (2 ^ 31) < 2 ^ 32
-  signed-fits = subst (λ (n : ℕ). n < 2 ^ 32) (sym or_is) go
-    where
-      go : 2 ^ 31 + p < 2 ^ 32
-      go = omega arith
-
-  pub plain-is : (b : ℕ) → b < 2 ^ 63 → of_bits binary32 p ≡ of_bits binary32 (cond (leb (2 ^ 63) b) (2 ^ 31) 0 + p)
-  plain-is b h = ap (of_bits binary32) (sym (ap (λ (t : Bool). cond t (2 ^ 31) 0 + p) (lt-leb (2 ^ 63) b h) ∙ zero-add p))
-
-  pub signed_is : (b : ℕ) → 2 ^ 63 ≤ b → of_bits binary32 (bit_or p (2 ^ 31)) ≡ of_bits binary32 (cond (leb (2 ^ 63) b) (2 ^ 31) 0 + p)
-  signed_is b h = ap (of_bits binary32) (or_is ∙ sym (ap (λ (t : Bool). cond t (2 ^ 31) 0 + p) (le-leb (2 ^ 63) b h)))
 
 -- ---- `narrow`
 pub of_nan : (x : Float) (b : Bool) → b ≡ is_nan x → b ≡ true → of_bits binary32 0x7fc0_0000 ≡ narrow x
