@@ -4,7 +4,7 @@ use mathlib.Core.Path.{◌≡◌, refl, sym, subst}
 use mathlib.Core.Bool.{Bool, true, false, cond, not, ◌&&◌, ◌||◌}
 use mathlib.Core.List.{List, [], ◌∷◌}
 use native.Mathlib.Omega.{arith}
-use native.Mathlib.Nat.{zero-mul}
+use native.Mathlib.Nat.{zero-mul, suc-ne-zero}
 use lib.ListN.{get_or}
 use lib.Dec.{lit≤}
 use mir.Val.{bool_byte as from_bool}
@@ -27,14 +27,11 @@ data Signs : Bool → Bool → Bool → Bool → Type 0 where
 signs_of : (s : Bool) (a z : ℕ) → z ≡ 0 → Signs (below false z s a) (below false z s a || level false z s a) (below s a false z) (below s a false z || level s a false z)
 signs_of s a z h = subst (λ (z : ℕ). Signs (below false z s a) (below false z s a || level false z s a) (below s a false z) (below s a false z || level s a false z)) (sym h) (go s a)
   where
-    other : (a : ℕ) → suc a ≡ 0 → ⊥
-    other a e = omega arith
-
     go : (s : Bool) (a : ℕ) → Signs (below false 0 s a) (below false 0 s a || level false 0 s a) (below s a false 0) (below s a false 0 || level s a false 0)
     go false zero = nought
     go true zero = nought
-    go false (suc a) = rw (lt-ltb 0 (suc a) (omega arith), le-ltb (suc a) 0 (omega arith), ne_eqb (suc a) 0 (other a)) above
-    go true (suc a) = rw (ne_eqb 0 (suc a) (λ e. other a (sym e)), lt-ltb 0 (suc a + 0) (omega arith)) under
+    go false (suc a) = rw (lt-ltb 0 (suc a) (omega arith), le-ltb (suc a) 0 (omega arith), ne_eqb (suc a) 0 (suc-ne-zero a)) above
+    go true (suc a) = rw (ne_eqb 0 (suc a) (λ e. suc-ne-zero a (sym e)), lt-ltb 0 (suc a + 0) (omega arith)) under
 
 signs : (v : Float) → Signs (lt zero32 v) (le zero32 v) (lt v zero32) (le v zero32)
 unfolding lt le eq of_bits of_fields odd

@@ -1,22 +1,20 @@
 -- |v| by a comparison with zero, where -0 stays: it compares as |v| does, and what is at most l in size is within -l .. l. Assumes nothing.
-use Prim.Native.Nat.{ℕ, ◌+◌, ◌*◌, ◌≤◌, ◌<◌}
+use Prim.Native.Nat.{ℕ, ◌+◌, ◌*◌, ◌≤◌, ◌<◌, zero-le}
 use mathlib.Core.Path.{◌≡◌, refl, sym, ap, ◌∙◌, subst}
 use mathlib.Core.Bool.{Bool, true, false, cond, not, ◌&&◌, ◌||◌}
 use native.Mathlib.Omega.{arith}
-use native.Mathlib.Nat.{mul-one, zero-mul}
+use native.Mathlib.Nat.{mul-one, zero-mul, le_trans, le_of_eq}
 use lib.IntN.{ℤ}
 use lib.Dec.{ltb, eqb}
 use borrow.Author.Tests.{le-ltb, ltb-true, ltb-false, eqb-true}
 use lib.Ieee.{Float, nan, inf, fin, of_bits, of_fields, odd, up, down, neg, lt, le, eq, below, level}
+use Rattle.std.proofs.lemmas.Bool.{and_parts}
 use Rattle.laws.specs.Order.{no_true, le_yes}
 use Rattle.types.specs.Bits.{zero32}
 use Rattle.definition.specs.Floats.{tiny, abs, flush, clip}
 
 abbrev pub size : Float → Float
 size v = cond (lt v zero32) (neg v) v
-
-least : (a z : ℕ) → z ≡ 0 → z ≤ a
-least a z h = omega arith
 
 -- ---- of a finite number: itself without the sign, or with it where it is a zero
 
@@ -29,7 +27,7 @@ sized : (s : Bool) (m : ℕ) (e : ℤ) → Sized s m e
 unfolding lt neg of_bits of_fields odd
 sized false m e = record {
   sign = false;
-  is = ap (λ (b : Bool). cond b (fin true m e) (fin false m e)) (le-ltb (m * up e * 1) (0 * 1 * down e) (least (m * up e * 1) (0 * 1 * down e) (zero-mul (down e))));
+  is = ap (λ (b : Bool). cond b (fin true m e) (fin false m e)) (le-ltb (m * up e * 1) (0 * 1 * down e) (le_trans (le_of_eq (zero-mul (down e))) zero-le));
   nought = no_true;
 }
 sized true m e = go (ltb 0 (m * up e * 1 + 0 * 1 * down e)) refl
@@ -65,12 +63,12 @@ times_zero a b h = ap (λ (x : ℕ). x * b) h ∙ zero-mul b
 
 same_below : (s t : Bool) (a b : ℕ) → (s ≡ true → a ≡ 0) → (t ≡ true → b ≡ 0) → below s a t b ≡ ltb a b
 same_below false false a b h k = refl
-same_below false true a b h k = sym (le-ltb a b (least a b (k refl)))
+same_below false true a b h k = sym (le-ltb a b (le_trans (le_of_eq (k refl)) zero-le))
 same_below true false a b h k = ap (ltb 0) (none a b (h refl)) ∙ ap (λ (x : ℕ). ltb x b) (sym (h refl))
   where
     none : (a b : ℕ) → a ≡ 0 → a + b ≡ b
     none a b h = omega arith
-same_below true true a b h k = le-ltb b a (least b a (h refl)) ∙ sym (le-ltb a b (least a b (k refl)))
+same_below true true a b h k = le-ltb b a (le_trans (le_of_eq (h refl)) zero-le) ∙ sym (le-ltb a b (le_trans (le_of_eq (k refl)) zero-le))
 
 seen_lt : {x a y b : Float} → Seen x a → Seen y b → lt x y ≡ lt a b
 unfolding lt
@@ -88,16 +86,11 @@ size_lt u v = seen_lt (seen u) (seen v)
 
 -- ---- what `le` says of two numbers
 
-both : (p q : Bool) → (p && q) ≡ true → (p ≡ true) × (q ≡ true)
-both true true h = (refl, refl)
-both true false h = no_true h
-both false q h = no_true h
-
 -- a, where a - is only before a zero, is at most ±b
 at_most : (g q : Bool) (a b : ℕ) → (g ≡ true → a ≡ 0) → (below g a q b || level g a q b) ≡ true → (a ≤ b) × (q ≡ true → b ≡ 0)
 at_most false false a b z h = (le_yes a b h, no_true)
 at_most false true a b z h =
-    let t = both (eqb a b) (eqb a 0) h in
+    let t = and_parts (eqb a b) (eqb a 0) h in
     let e : a ≡ b = eqb-true a b t.0 in
     let n : a ≡ 0 = eqb-true a 0 t.1 in
     (omega arith, λ _. sym e ∙ n)
@@ -109,7 +102,7 @@ at_most true true a b z h = go (ltb b a) (eqb a b) refl refl h
 
     go : (p q : Bool) → ltb b a ≡ p → eqb a b ≡ q → (p || (q && true)) ≡ true → (a ≤ b) × (true ≡ true → b ≡ 0)
     go true q l e h = absurd (none a b (z refl) (ltb-true b a l))
-    go false true l e h = (least b a (z refl), λ _. sym (eqb-true a b e) ∙ z refl)
+    go false true l e h = (le_trans (le_of_eq (z refl)) zero-le, λ _. sym (eqb-true a b e) ∙ z refl)
     go false false l e h = no_true h
 
 -- ---- so t is neither above l nor below -l
@@ -152,7 +145,7 @@ within (fin s m e) l h = go l (subst (λ (x : Float). le x l ≡ true) (sized s 
 
 reaches : (s : Bool) (a b : ℕ) → (below false b s a || level false b s a) ≡ true → b ≤ a
 reaches false a b h = le_yes b a h
-reaches true a b h = let e = eqb-true b a (both (eqb b a) (eqb b 0) h).0 in omega arith
+reaches true a b h = let e = eqb-true b a (and_parts (eqb b a) (eqb b 0) h).0 in omega arith
 
 not_tiny : (t : Float) → le tiny (size t) ≡ true → lt (abs t) tiny ≡ false
 unfolding le lt eq neg of_bits of_fields odd
@@ -167,7 +160,7 @@ not_tiny (fin s m e) h =
 pub kept : (t l a : Float) → a ≡ size t → (le a l && le tiny a) ≡ true → t ≡ clip (flush t) l
 unfolding clip flush
 kept t l a e h =
-    let p = both (le a l) (le tiny a) h in
+    let p = and_parts (le a l) (le tiny a) h in
     let w = within t l (subst (λ (x : Float). le x l ≡ true) e p.0) in
     let n = not_tiny t (subst (λ (x : Float). le tiny x ≡ true) e p.1) in
     rw (n, w.0, w.1)
