@@ -22,9 +22,6 @@ pub record Turns (q₀ : Equalizer) (xs : List Float) (q : Equalizer) (ys : List
   pub within : i ≤ length ms
   pub done : Progress q₀ xs q ys ms i (2 * i)
 
-pub turns_none : (q : Equalizer) (xs ys : List Float) (ms : List ℕ) → ServedBlock q xs ys ms → Turns q xs q ys ms 0
-turns_none q xs ys ms h = record { shaped = h; within = omega arith; done = progress_none q xs ys ms h.accepted }
-
 module _ (q₀ : Equalizer) (xs : List Float) (q : Equalizer) (ys : List Float) (ms : List ℕ) (i : ℕ) (g : Turns q₀ xs q ys ms i) where
   pub turns_more : (x : C32) (r : Sampled) (b : ℕ) (ws w : List Float) → i < length ms → x.re ≡ get_or xs (2 * i) nan → x.im ≡ get_or xs (2 * i + 1) nan → did r ws w ≡ sample_def q x
       → b ≡ mark_number r.mark

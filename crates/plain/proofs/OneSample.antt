@@ -65,28 +65,7 @@ module _ (s : EqualizeState) (w h : List Float) (x : C32) (n f : ℕ) (g : TapsO
     unfolding step3
     took-heard i k j = rw (← p, e, ← sum_is, ← o, i) j
 
--- ---- the feedback window
-
-pub feed_is : (f m : ℕ) (v : C32) (h part : List Float) → length h ≡ 2 * (f + m) → part ≡ shifted m v (take (length h - 2 * f) (drop (2 * f) h))
-    → put_mid (2 * f) (length h - 2 * f) h part ≡ take (2 * f) h ++ shifted m v (drop (2 * f) h)
-feed_is f m v h part e d =
-    let l : length (drop (2 * f) h) ≤ length h - 2 * f = simp length-drop (omega arith) in
-    rw (drop_of_length-le (drop (2 * f) h) {i = length h - 2 * f} l, append-nil, d, take_all (length h - 2 * f) (drop (2 * f) h) l)
-
 -- ---- the whole sample
-
--- R4 goes by mode and count alone
-with_track_r4 : (s : EqualizeState) (t : Track) → rule_r4 s ≡ true → rule_r4 (with_track s t) ≡ true
-unfolding rule_r4
-with_track_r4 s t e = e
-
-pub tracked_r4 : (s k : EqualizeState) (t : Track) → rule_r4 s ≡ true → k ≡ with_track s t → rule_r4 k ≡ true
-tracked_r4 s k t e d = rw d (with_track_r4 s t e)
-
-pub beside_again : (s : EqualizeState) (w h k : List Float) (t : Taps) → Beside s w h t → (v : C32) → k ≡ shifted t.forward v h → Beside s w k t
-beside_again s w h k t z v e =
-    let l : length (shifted t.forward v h) ≡ length h = length_shifted t.forward v h (omega (arith, z.sum, z.window)) in
-    record { sum = z.sum; weights = z.weights; window = ap length e ∙ l ∙ z.window }
 
 module _ (s : EqualizeState) (w h : List Float) (x : C32) (n f : ℕ) (z : TapsOf s w h n f) where
   pub sample-is : (st : C32) (h1 v h2 : List Float) (r : Stage) (k nx : EqualizeState) → st ≡ sanitized x → h1 ≡ shifted f st h

@@ -25,6 +25,9 @@ fn sanitize(v: C32) -> C32
     if numeric::finite_c(v) { v } else { C32::ZERO }
 }
 
+// `Beside` is what three functions ask: the record goes by value, and weights and window are lent one by one, as the specification has it, so that no struct
+// holds them with the taps.
+
 // Steps 4 to 7: a sample whose sum y is finite. Cosine and sine come before the powers: they need not wait behind those long sums.
 fn hear(s: EqualizeState, w: &mut [f32], h: &[f32], y: C32, taps: Taps) -> Stage
     requires { Beside s w.old h.now taps }
@@ -106,6 +109,7 @@ pub fn block(
         (equalizer result weights.new window.new) output.new marks.new }
 {
     let mut s = state;
+    // by the place, which input and output need too: numbers of an interleaved slice
     for i in 0..marks.len() {
         let x = complex::at(input, i);
         let r = sample(s, weights, window, x);

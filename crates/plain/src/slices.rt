@@ -20,14 +20,15 @@ pub(crate) fn shift(x: &mut [f32], n: usize, v: C32)
     complex::put(x, 0, v);
 }
 
-// The power of the first n numbers, summed in their order, where `first` is the sum of the first `from`.
+// The power of the first n numbers, summed in their order, where `first` is the sum of the first `from`. By their places: pairs from `as_chunks` would be made
+// into complex numbers again, which `at` reads.
 pub(crate) fn window_power(x: &[f32], from: usize, first: f32, n: usize) -> f32
     requires { (2 * n ≤ length x.now) × ((from ≤ n) × (first ≡ powerDef x.now from)) }
     ensures { result ≡ powerDef x.now n }
 {
     let mut sum = first;
     for i in from..n {
-        sum = sum + complex::norm(complex::at(x, i));
+        sum += complex::norm(complex::at(x, i));
     }
     sum
 }
@@ -42,7 +43,8 @@ fn update_weight(w: C32, g: C32, x: C32) -> C32
     }
 }
 
-// The first n weights renewed.
+// The first n weights renewed. By their places: of `as_chunks_mut` the library says what the pairs hold at first, and not what the slice holds once they are
+// written.
 fn renew(w: &mut [f32], x: &[f32], g: C32, n: usize)
     requires { (2 * n ≤ length w.old) × (2 * n ≤ length x.now) }
     ensures { w.new ≡ updated n g w.old x.now }

@@ -2,7 +2,8 @@
 use Prim.Native.Nat.{◌-◌}
 use mathlib.Core.Path.{◌≡◌}
 use native.Mathlib.Omega.{arith}
-use Rattle.plain.proofs.OneSample.{sized, sample-is, tracked_r4}
+use Rattle.plain.proofs.OneSample.{sized, sample-is}
+use Rattle.steps.proofs.Kept.{tracked_r4}
 use Rattle.plain.proofs.sample_sized.Goals as goal
 
 pub advance-requires : goal.advance-requires
