@@ -1,12 +1,15 @@
 -- The floor of a float held to 0 .. k, by comparisons with 1, 2 and so on. Assumes nothing.
 use mathlib.Core.Path.{◌≡◌, refl, sym, ap, ◌∙◌, subst}
-use mathlib.Core.Bool.{Bool, true, false}
+use mathlib.Core.Bool.{Bool, true, false, cond}
+use mathlib.Core.List.{List}
 use Prim.Native.Nat.{ℕ, zero, suc, ◌+◌, ◌-◌, ◌*◌, ◌/◌, ◌^◌, ◌≤◌, ◌<◌, min}
 use native.Mathlib.Nat.{add-zero, le_of_eq, le_antisymm, mul-one, le-min, le-div_iff_mul-le, div-lt_iff_lt-mul, lt_of_le_of_lt, min-le_right, min-le_left, zero-mul, le_of_mul-le-mul_right}
 use native.Mathlib.Omega.{arith}
 use lib.IntN.{pos}
 use lib.Count.{count_trailing_zeros}
 use lib.Dec.{T, eqb, eqb→eq}
+use lib.ListN.{length, get_or}
+use Rattle.std.proofs.lemmas.List.{get_or_default}
 use mir.Val.{bool_byte as from_bool}
 use lib.Ieee.{Float, nan, inf, fin, binary32, of_int, odd, round, units, size, span, climb, up, down, lt, le, eq}
 use lib.Ieee.Fits.{down_pos, and_r}
@@ -121,3 +124,19 @@ next k m n b t l h s e d = go (reached k t) refl
     go : (c : Bool) → reached k t ≡ c → n + b ≡ held_to m t
     go true p = went (held_to m t) (rw s (up_to k t l h p)) (e ∙ less k t ∙ rw s refl) (d ∙ ap from_bool p)
     go false p = rw (d, p, s, same k t l h p) (rw e (add-zero (held_to (k - 1) t)))
+
+-- ---- what stands at the floor: one place more, one number more
+
+module _ {A : Type 0} (xs : List A) (t : Float) where
+  -- before the first comparison
+  pub first_at : (m : ℕ) (y : A) → 0 < length xs → m ≡ 0 → (d : A) → get_or xs 0 y ≡ get_or xs (held_to m t) d
+  first_at m y l s d = get_or_default xs 0 y d l ∙ ap (λ (n : ℕ). get_or xs n d) (sym (none t)) ∙ ap (λ (n : ℕ). get_or xs (held_to n t) d) (sym s)
+
+  -- after one more
+  pub next_at : (k m : ℕ) (y r r' : A)
+      → 1 ≤ k → k < 8 → k < length xs → m ≡ k → r' ≡ cond (reached k t) (get_or xs k y) r → ((d : A) → r ≡ get_or xs (held_to (k - 1) t) d) → (d : A) → r' ≡ get_or xs (held_to m t) d
+  next_at k m y r r' a b l s e h d = e ∙ go (reached k t) refl ∙ ap (λ (n : ℕ). get_or xs (held_to n t) d) (sym s)
+    where
+      go : (c : Bool) → reached k t ≡ c → cond c (get_or xs k y) r ≡ get_or xs (held_to k t) d
+      go true p = get_or_default xs k y d l ∙ ap (λ (n : ℕ). get_or xs n d) (sym (up_to k t a b p))
+      go false p = h d ∙ ap (λ (n : ℕ). get_or xs n d) (sym (same k t a b p))
