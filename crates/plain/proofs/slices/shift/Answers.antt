@@ -1,7 +1,19 @@
--- `shift` moves the first numbers up by one: the library copies them, and v goes in at 0.
+-- `shift` moves the first numbers up by one: the loop replaces them one by one.
+use mathlib.Core.Path.{◌≡◌, refl}
 use native.Mathlib.Omega.{arith}
-use Rattle.plain.proofs.Numbers.{moved_up}
+use Rattle.definition_laws.proofs.Mapped.{mapped_none, shift_list}
+use Rattle.plain.proofs.Numbers.{stored, next_re, next_im}
 use Rattle.plain.proofs.slices.shift.Goals as goal
 
+pub loop-i-init : goal.loop-i-init
+loop-i-init c = (mapped_none _ _, refl, refl)
+
+pub loop-i-preserved : goal.loop-i-preserved
+loop-i-preserved c =
+    let v = c.loop-i.invariant in
+    let e = c.at-old.ensures in
+    (stored _ v.0 _ c.put.ensures v.1 v.2 (omega arith), next_re _ v.0 _ e.0, next_im _ v.0 _ e.1)
+
 pub returns : goal.returns
-returns c = rw (c.put.ensures, c.copy_within.ensures.after) (moved_up c.args.n _ c.args.v c.args.x.now (omega arith) c.if-n-eq0.false c.requires)
+returns c = let e : c.loop-i.i ≡ c.args.n = omega arith in
+    shift_list _ _ _ _ (omega arith) (rw e at c.loop-i.invariant.0)
