@@ -43,6 +43,8 @@ pub fn reset(raw: EqRecord, weights: &mut [f32], window: &mut [f32]) -> EqReply
     EqReply::from(equalize_state::reset(state, weights, window))
 }
 
+// The three setters stand one by one: a function over them would be handed a closure, and say of it what each says of itself.
+
 // Another step size for Cma.
 #[tactic(auto, using(crate::proofs::Laws::cma_unknown, crate::proofs::Laws::cma_known))]
 pub fn set_mu_cma(raw: EqRecord, mu: f32) -> EqReply

@@ -14,7 +14,8 @@ ghost use Rattle.definition.specs.Run.{run_def};
 ghost use Rattle.definition.specs.Paths.{by_taps, Promised};
 
 // The least block that goes in runs, without feedback taps; a shorter one goes sample by sample. A matter of speed alone, since both ways give the same:
-// a run has a start to pay, which takes the more samples to earn back the fewer the taps are (docs/PERFORMANCE.md).
+// a run has a start to pay, which takes the more samples to earn back the fewer the taps are (docs/PERFORMANCE.md). A match: a table would have the same rows, and
+// a search beside them.
 fn quick_from(taps: usize) -> usize {
     match taps {
         0..=4 => 56,

@@ -1,4 +1,4 @@
-// Loops over the weights and the window.
+// Loops over the weights and the window. `2 * n ≤ length` stands in three contracts: a name for it would be no shorter.
 ghost use Rattle.std.specs.Prelude.{◌≡◌, ◌+◌, ◌*◌, ◌<◌, ◌≤◌, length};
 ghost use Rattle.definition.specs.Floats.{◌+f◌, ◌-f◌, ◌*f◌, flush};
 ghost use Rattle.definition.specs.Slices.{shifted, power as powerDef, updated};
@@ -22,6 +22,7 @@ pub(crate) fn shift(x: &mut [f32], n: usize, v: C32)
 
 // The power of the first n numbers, summed in their order, where `first` is the sum of the first `from`. By their places: pairs from `as_chunks` would be made
 // into complex numbers again, which `at` reads.
+#[tactic(auto, using(definition_laws::proofs::Mapped::power_more))]
 pub(crate) fn window_power(x: &[f32], from: usize, first: f32, n: usize) -> f32
     requires { (2 * n ≤ length x.now) × ((from ≤ n) × (first ≡ powerDef x.now from)) }
     ensures { result ≡ powerDef x.now n }
