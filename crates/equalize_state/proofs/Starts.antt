@@ -52,9 +52,9 @@ module _ (p : EqParams) (w h : List Float) (v : Outcome) (e : v ≡ new_verdict 
   new_refused x d = rw (← e, d)
 
   pub new_done : v ≡ (Ok tt) → (f : ℕ) (t : EqualizeState) (w' h' : List Float) → f ≡ length w / 2 - p.feedback_taps → t ≡ fresh_state p
-      → (w' ≡ start_weights (length w / 2) (f / 2)) × (h' ≡ zeros (2 * (length w / 2))) → made (Ok t) w' h' ≡ new_def p w h
+      → w' ≡ start_weights (length w / 2) (f / 2) → h' ≡ zeros (2 * (length w / 2)) → made (Ok t) w' h' ≡ new_def p w h
   unfolding new_def start_over fresh_state start_state
-  new_done d f t w' h' a b c = rw (← e, d, b, c.0, c.1, a)
+  new_done d f t w' h' a b c k = rw (← e, d, b, c, k, a)
 
 -- ---- reset
 
@@ -64,9 +64,9 @@ module _ (s : EqualizeState) (w h : List Float) (v : Outcome) (p : v ≡ reset_v
   reset_refused e d = rw (← p, d)
 
   pub reset_done : v ≡ (Ok tt) → (f : ℕ) (t : EqualizeState) (r : Equalized) (w' h' : List Float) → f ≡ length w / 2 - s.params.feedback_taps → t ≡ start_state s.params s.kp s.ki
-      → (w' ≡ start_weights (length w / 2) (f / 2)) × (h' ≡ zeros (2 * (length w / 2))) → r ≡ record { state = t; outcome = Ok tt } → reset_to r w' h' ≡ reset_def (equalizer s w h)
+      → w' ≡ start_weights (length w / 2) (f / 2) → h' ≡ zeros (2 * (length w / 2)) → r ≡ record { state = t; outcome = Ok tt } → reset_to r w' h' ≡ reset_def (equalizer s w h)
   unfolding reset_def start_over start_state
-  reset_done d f t r w' h' a b c z = rw (z, ← p, d, b, c.0, c.1, a)
+  reset_done d f t r w' h' a b c k z = rw (z, ← p, d, b, c, k, a)
 
   pub reset_fits : v ≡ (Ok tt) → (f : ℕ) → f ≡ length w / 2 - s.params.feedback_taps
       → (length w ≡ 2 * (length w / 2)) × ((length h ≡ 2 * (length w / 2)) × ((1 ≤ f) × (f ≤ length w / 2)))
@@ -82,6 +82,3 @@ module _ (s : EqualizeState) (w h : List Float) (v : Outcome) (p : v ≡ reset_v
       let S : length w / 2 ≡ length h / 2 = eqb-true _ _ r.1 in
       let B : 3 ≤ length w / 2 - s.params.feedback_taps = fits_some _ t.1 in
       (omega arith, (omega arith, (omega arith, omega arith)))
-
-pub cleared : (h k : List Float) (n : ℕ) → length h ≡ 2 * n → k ≡ zeros (length h) → k ≡ zeros (2 * n)
-cleared h k n e d = d ∙ ap zeros e
