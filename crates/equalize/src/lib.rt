@@ -6,8 +6,6 @@ use types::{EqualizeState, Equalized};
 
 pub mod reference;
 
-ghost use Rattle.std.specs.Prelude.{◌≡◌};
-ghost use Rattle.definition.specs.Calls.{equalize_def};
 ghost use Rattle.definition.specs.Slices.{samples_of};
 ghost use Rattle.definition.specs.Packed.{equalizer, answered, ServedBlock, Ran};
 ghost use Rattle.definition.specs.Run.{run_def};
@@ -50,29 +48,20 @@ fn joint_from(taps: usize) -> usize {
     }
 }
 
-// How a served block goes: in runs of 64, the linear path without feedback taps and the joint path with them, or sample by sample, the plain path.
-#[derive(Clone, Copy)]
-pub(crate) enum Way {
-    Runs,
-    Samples,
-}
-
-// The way of a block of `len` samples. With 3 + 1 taps none goes in runs: the plain path is faster at any length.
-fn way_of(taps: usize, feedback: usize, len: usize) -> Way {
-    let runs = match feedback {
+// Whether a block of `len` samples goes in runs. With 3 + 1 taps none does: the plain path is faster at any length.
+fn by_runs(taps: usize, feedback: usize, len: usize) -> bool {
+    match feedback {
         _ if len < 8 => false,
         0 => len >= quick_from(taps),
         _ => (taps != 4) & (len >= joint_from(taps)),
-    };
-    if runs { Way::Runs } else { Way::Samples }
+    }
 }
 
 // What each path asks and promises of a block stands in its contract again: record and slices come one by one, as the specification has it, and no struct
 // holds them.
 
-// The samples of an accepted call.
-fn samples(
-    way: Way,
+// The samples of an accepted call: the linear path without feedback taps, the joint path with them, both in runs of 64, or the plain path.
+fn equalize_paths(
     state: EqualizeState,
     weights: &mut [f32],
     window: &mut [f32],
@@ -84,36 +73,11 @@ fn samples(
     ensures { Ran (run_def (equalizer state weights.old window.old) (samples_of input.now))
         (equalizer result weights.new window.new) output.new marks.new }
 {
-    match way {
-        Way::Runs => run_linear::equalize_linear(state, weights, window, input, output, marks),
-        Way::Samples => plain::block(state, weights, window, input, output, marks),
+    if by_runs(weights.len() / 2, state.params.feedback_taps, marks.len()) {
+        run_linear::equalize_linear(state, weights, window, input, output, marks)
+    } else {
+        plain::block(state, weights, window, input, output, marks)
     }
-}
-
-// A block of samples that goes this way, or a refusal that leaves all as it was.
-#[tactic(auto, using(crate::proofs::Calls::call_shaped, crate::proofs::Calls::call_refused))]
-pub(crate) fn equalize_by(
-    way: Way,
-    state: EqualizeState,
-    weights: &mut [f32],
-    window: &mut [f32],
-    input: &[f32],
-    output: &mut [f32],
-    marks: &mut [u8],
-) -> Equalized
-    ensures { answered result weights.new window.new output.new marks.new ≡ equalize_def (equalizer state weights.old window.old) input.now output.old marks.old }
-{
-    if let Err(e) = record_verdict::verdict(
-        state,
-        weights,
-        window,
-        input.len(),
-        output.len(),
-        marks.len(),
-    ) {
-        return Equalized::refused(state, e);
-    }
-    Equalized::served(samples(way, state, weights, window, input, output, marks))
 }
 
 // A block of samples, or a refusal (1, 8, 9, 10) that leaves all as it was. Same answer as `reference::equalize`.
@@ -128,6 +92,15 @@ pub fn equalize(
     ensures { Promised (by_taps (equalizer state weights.old window.old)) (equalizer state weights.old window.old) input.now output.old marks.old
         (answered result weights.new window.new output.new marks.new) }
 {
-    let way = way_of(weights.len() / 2, state.params.feedback_taps, marks.len());
-    equalize_by(way, state, weights, window, input, output, marks)
+    if let Err(e) = record_verdict::verdict(
+        state,
+        weights,
+        window,
+        input.len(),
+        output.len(),
+        marks.len(),
+    ) {
+        return Equalized::refused(state, e);
+    }
+    Equalized::served(equalize_paths(state, weights, window, input, output, marks))
 }
