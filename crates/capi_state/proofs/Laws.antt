@@ -1,6 +1,6 @@
 -- The exported calls that take no samples, from the calls: one law for each exit. Assumes nothing.
-use mathlib.Core.Path.{◌≡◌, ap, sym}
-use mathlib.Core.Bool.{Bool, true, false, ◌&&◌}
+use mathlib.Core.Path.{◌≡◌, ap}
+use mathlib.Core.Bool.{true, ◌&&◌}
 use mathlib.Core.List.{List}
 use lib.ListN.{length}
 use lib.Ieee.{Float}

@@ -48,9 +48,6 @@ module _ (n g x : ℕ) (n1 : n ≤ 1) (lo : 94 ≤ x) (hi : x ≤ 140) (g1 : 1 �
   up_is : g * 2 ^ 39 % 2 ^ 64 ≡ S
   up_is = shl_exact 24 39 64 g24 (lit≤ tt)
 
-  some : n ≤ S
-  some = omega arith
-
   below : x < 157
   below = omega arith
 

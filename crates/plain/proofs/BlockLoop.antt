@@ -12,7 +12,7 @@ use Rattle.definition.specs.Slices.{samples_of}
 use Rattle.definition.specs.Packed.{equalizer, ServedBlock, Ran}
 use Rattle.definition.specs.Sample.{Equalizer, sample_def}
 use Rattle.definition.specs.Run.{run_def}
-use Rattle.definition_laws.proofs.Progress.{Progress, progress_none, progress-more, progress-all}
+use Rattle.definition_laws.proofs.Progress.{Progress, progress-more, progress-all}
 use Rattle.steps.specs.declared.Sampled.{Sampled}
 use Rattle.steps.specs.Step.{did}
 

@@ -1,12 +1,10 @@
 -- One sample: the pieces put together. Assumes nothing.
-use Prim.Native.Nat.{ℕ, ◌+◌, ◌-◌, ◌*◌, ◌/◌, ◌≤◌, min}
+use Prim.Native.Nat.{ℕ, ◌+◌, ◌-◌, ◌*◌, ◌/◌, min}
 use mathlib.Core.Path.{◌≡◌, sym, ◌∙◌, ap, subst}
 use mathlib.Core.Bool.{Bool, true, false}
-use mathlib.Core.List.{List, ◌++◌, append-nil}
+use mathlib.Core.List.{List, ◌++◌}
 use native.Mathlib.Omega.{arith}
-use borrow.Rule.Slice.PartMut.{put_mid}
-use lib.ListN.{length, take, drop, length-drop, drop_of_length-le}
-use lib.Seq.{take_all}
+use lib.ListN.{length, take, drop}
 use lib.Dec.{T}
 use lib.Ieee.{Float}
 use lib.Ieee.Bits.{is_true}
@@ -21,12 +19,10 @@ use Rattle.definition.specs.Packed.{equalizer}
 use Rattle.definition.specs.Sample.{Did, sanitized, step1, step2, mu_of, step_size, update_of, adapted, tracked, hear, heard_as, step3, fed_in, advance, step8, sample_def}
 use Rattle.definition.specs.Sample as sample
 use Rattle.definition.specs.Rules.{rule_r4, accepted_def}
-use Rattle.definition_laws.proofs.Every.{length_shifted}
 use Rattle.definition_laws.proofs.Accept.{Accepted, accepted_parts, shape}
 use Rattle.plain.specs.declared.counts.Taps.{Taps}
 use Rattle.plain.specs.Taps.{TapsOf, Beside}
 use Rattle.steps.specs.declared.Stepped.{Stepped}
-use Rattle.steps.specs.declared.Track.{Track}
 use Rattle.steps.specs.declared.Stage.{Stage}
 use Rattle.steps.specs.Step.{track_of, update_if, step_at, step_with, with_track, heard_of, unheard_of, stage}
 
