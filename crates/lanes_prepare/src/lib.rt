@@ -3,7 +3,7 @@
 
 ghost use Rattle.std.specs.Prelude.{◌≡◌, ◌+◌, ◌-◌, ◌≤◌, ◌%◌, length, get_or};
 ghost use Rattle.std.specs.Float.{nan};
-ghost use Rattle.definition.specs.Sample.{sanitized, step_size};
+ghost use Rattle.definition.specs.Sample.{step_size};
 ghost use Rattle.lanes.specs.Powers.{square_at, chain_of};
 ghost use Rattle.lanes.specs.Between.{Between};
 ghost use Rattle.lanes_prepare.specs.Entered.{Entered};
@@ -11,15 +11,7 @@ ghost use Rattle.dot.specs.Added.{Added};
 ghost use Rattle.lanes_prepare.specs.Clock.{cma_left, StepSizes};
 
 use lanes::{PLACES, RUN, Window};
-use types::{C32, EqMode, EqParams, EqualizeState};
-
-// What goes in of a sample: zero where it is not finite.
-#[tactic(auto, unfolding(definition::specs::Sample::sanitized))]
-fn sanitize(v: C32) -> C32
-    ensures { result ≡ sanitized v }
-{
-    if numeric::finite_c(v) { v } else { C32::ZERO }
-}
+use types::{EqMode, EqParams, EqualizeState};
 
 // The powers of a run's forward windows and their step sizes, made ahead: the sample at `at` has those at `at`. Apart, since the powers are summed and the
 // sizes divided sixteen and more at a time.
@@ -44,7 +36,7 @@ pub fn enter(h: &mut Window, input: &[f32])
     ensures squares { h.new.squares ≡ h.old.squares }
 {
     for k in 0..input.len() / 2 {
-        h.put(RUN - 1 - k, sanitize(complex::at(input, k)));
+        h.put(RUN - 1 - k, numeric::sanitize(complex::at(input, k)));
     }
 }
 

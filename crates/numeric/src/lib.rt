@@ -6,6 +6,7 @@ ghost use Rattle.std.specs.Float.{binary32};
 ghost use Rattle.std.specs.Float.Ieee.{of_bits};
 ghost use Rattle.std.specs.Float.Ieee.Nearest.{closest};
 ghost use Rattle.std.specs.Float.Ieee.Scale.{finite};
+ghost use Rattle.definition.specs.Sample.{sanitized};
 ghost use Rattle.definition.specs.Floats.{flush, clip as clipDef, narrow as narrowDef, finite_c};
 
 use types::C32;
@@ -27,6 +28,14 @@ pub fn finite_c(v: C32) -> bool
     ensures { result ≡ finite_c v }
 {
     is_finite(v.re) & is_finite(v.im)
+}
+
+// What a window stores of v: zero where a part is not finite.
+#[tactic(auto, unfolding(definition::specs::Sample::sanitized))]
+pub fn sanitize(v: C32) -> C32
+    ensures { result ≡ sanitized v }
+{
+    if finite_c(v) { v } else { C32::ZERO }
 }
 
 // +0 where |x| is below 1e-30, else x. A NaN stays a NaN. Two tests: by `x.abs()` a flush and a clip, each feeding the next, took 8.0 ns and not 5.8.

@@ -11,22 +11,11 @@ mod slices;
 ghost use Rattle.std.specs.Prelude.{◌≡◌, true, ◌++◌, ◌-◌, ◌*◌, ◌≤◌, length, take, drop};
 ghost use Rattle.definition.specs.Slices.{shifted, samples_of};
 ghost use Rattle.definition.specs.Packed.{equalizer, ServedBlock, Ran};
-ghost use Rattle.definition.specs.Sample.{sanitized, step2, step3, hear as hearDef, heard_as, sample_def};
+ghost use Rattle.definition.specs.Sample.{step2, step3, hear as hearDef, heard_as, sample_def};
 ghost use Rattle.definition.specs.Rules.{rule_r4, accepted_def};
 ghost use Rattle.definition.specs.Run.{run_def};
 ghost use Rattle.steps.specs.Step.{stage, did};
 ghost use Rattle.plain.specs.Taps.{Beside};
-
-// What the window stores: v, or zero where a part is not finite.
-#[tactic(auto, unfolding(definition::specs::Sample::sanitized))]
-fn sanitize(v: C32) -> C32
-    ensures { result ≡ sanitized v }
-{
-    if numeric::finite_c(v) { v } else { C32::ZERO }
-}
-
-// `Beside` is what three functions ask: the record goes by value, and weights and window are lent one by one, as the specification has it, so that no struct
-// holds them with the taps.
 
 // Steps 4 to 7: a sample whose sum y is finite. Cosine and sine come before the powers: they need not wait behind those long sums.
 fn hear(s: EqualizeState, w: &mut [f32], h: &[f32], y: C32, taps: Taps) -> Stage
@@ -72,7 +61,7 @@ fn sample_sized(s: EqualizeState, w: &mut [f32], h: &mut [f32], x: C32, taps: Ta
     requires s_value { rule_r4 s ≡ true }
     ensures { did result w.new h.new ≡ sample_def (equalizer s w.old h.old) x }
 {
-    slices::shift(h, taps.forward, sanitize(x));
+    slices::shift(h, taps.forward, numeric::sanitize(x));
     let r = take(s, w, h, x, taps);
     feed(h, taps, r.fed);
     Sampled {
