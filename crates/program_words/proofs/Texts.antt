@@ -17,7 +17,8 @@ before_is d l = is_position_or_len (before d) (λ b. eqb b d) refl (λ b t. ap (
 pub before_most : (d : ℕ) (l : List ℕ) → before d l ≤ length l
 before_most d l = rw (before_is d l) (prefix_len-le-length _ l)
 
-found_by : (c : Bool) (p n : ℕ) → ltb p n ≡ c → p ≤ n → unwrap_or (cond c (Some p) None) n ≡ p
+-- the place of what is found, or the end
+pub found_by : (c : Bool) (p n : ℕ) → ltb p n ≡ c → p ≤ n → unwrap_or (cond c (Some p) None) n ≡ p
 found_by true p n e h = refl
 found_by false p n e h = let k = ltb-false p n e in omega arith
 

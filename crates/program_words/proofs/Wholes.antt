@@ -1,7 +1,11 @@
 -- Digits read one by one: what is counted, and their value as far as it is below 10^15. Assumes nothing.
-use Rattle.std.proofs.Common.{◌≡◌, ℕ, suc, ◌+◌, ◌-◌, ◌*◌, ◌<◌, ◌≤◌, min, Bool, true, false, cond, eqb, ltb, List, [], ◌∷◌, length, get_or, drop, sym, ap, ◌∙◌, add-one, arith, drop_of_length-le, drop-cons, le-ltb, lt-ltb, eq-eqb, ne_eqb, le-leb, Some, None}
-use borrow.Author.Tests.{lt-leb}
-use Rattle.program_words.specs.Wholes.{too_long, is_digit, digit_count, digit_value, DigitsFrom, whole_of}
+use Rattle.std.proofs.Common.{◌≡◌, ℕ, suc, ◌+◌, ◌-◌, ◌*◌, ◌<◌, ◌≤◌, min, Bool, true, false, cond, not, eqb, ltb, List, [], ◌∷◌, length, take, refl, sym, ap, ◌∙◌, arith, le-ltb, lt-ltb, eq-eqb, ne_eqb, le-leb, Some, None, unwrap_or}
+use Rattle.std.specs.List.{position, position_or_len, fold}
+use Rattle.std.proofs.lemmas.List.Sums.{prefix_len-le-length}
+use Rattle.std.proofs.lemmas.List.Recursion.{is_position_or_len}
+use borrow.Author.Tests.{lt-leb, ltb-false}
+use Rattle.program_words.proofs.Texts.{found_by}
+use Rattle.program_words.specs.Wholes.{too_long, is_digit, digit_count, digit_value, with_digit, DigitsFrom, whole_of}
 
 alike_by : (c : Bool) (l : List ℕ) (v w d : ℕ) → ((v w : ℕ) → min v too_long ≡ min w too_long → min (digit_value v l) too_long ≡ min (digit_value w l) too_long)
     → min v too_long ≡ min w too_long → min (cond c (digit_value (v * 10 + d) l) v) too_long ≡ min (cond c (digit_value (w * 10 + d) l) w) too_long
@@ -14,38 +18,41 @@ unfolding digit_value
 alike [] v w h = h
 alike (b ∷ l) v w h = alike_by (is_digit b) l v w (b - 48) (alike l) h
 
--- up to `at` they are digits
-module _ (t : List ℕ) (start value at : ℕ) (q : digit_count t ≡ at + digit_count (drop at t))
-    (r : min (digit_value start t) too_long ≡ min (digit_value value (drop at t)) too_long) where
-  stopped : digit_count (drop at t) ≡ 0 → digit_value value (drop at t) ≡ value → DigitsFrom t 0 start value at at
-  stopped z v = (sym (r ∙ ap (λ (x : ℕ). min x too_long) v), omega arith, omega arith)
+-- the digits are the bytes before the first that is none
+count_is : (t : List ℕ) → digit_count t ≡ position_or_len (λ b. not (is_digit b)) t
+unfolding digit_count
+count_is t = is_position_or_len digit_count (λ b. not (is_digit b)) refl (λ b l. turned (is_digit b) (digit_count l)) t
+  where
+    turned : (c : Bool) (n : ℕ) → cond c (suc n) 0 ≡ cond (not c) 0 (1 + n)
+    turned true n = omega arith
+    turned false n = refl
 
-  -- a byte that is no digit
-  pub digits_stop : at < length t → is_digit (get_or t at 0) ≡ false → DigitsFrom t 0 start value at at
-  unfolding digit_count digit_value
-  digits_stop h e = stopped (rw (drop-cons t at 0 h, e)) (rw (drop-cons t at 0 h, e))
+step_by : (c : Bool) (value b : ℕ) → ltb value too_long ≡ c → min (cond c (value * 10 + (b - 48)) value) too_long ≡ min (value * 10 + (b - 48)) too_long
+step_by true value b e = refl
+step_by false value b e = let k = ltb-false value too_long e in omega arith
 
-  -- nothing is left
-  pub digits_end : at ≡ length t → DigitsFrom t 0 start value (length t) (length t)
-  unfolding digit_count digit_value
-  digits_end e =
-      let h : length t ≤ at = omega arith in
-      let s = stopped (rw (drop_of_length-le t h)) (rw (drop_of_length-le t h)) in
-      (s.0, omega (arith, s.1), omega arith)
+-- one digit more
+with_is : (value b : ℕ) → min (with_digit value b) too_long ≡ min (value * 10 + (b - 48)) too_long
+unfolding with_digit
+with_is value b = step_by (ltb value too_long) value b refl
 
-  -- one digit more
-  module _ (h : at < length t) (e : is_digit (get_or t at 0) ≡ true) where
-    pub count_next : digit_count t ≡ at + 1 + digit_count (drop (at + 1) t)
-    unfolding digit_count
-    count_next =
-        let z : digit_count (drop at t) ≡ suc (digit_count (drop (at + 1) t)) = rw (add-one, drop-cons t at 0 h, e) in
-        omega arith
+folded_by : (c : Bool) (b v : ℕ) (t : List ℕ) → min (fold with_digit (with_digit v b) (take (digit_count t) t)) too_long ≡ min (digit_value (with_digit v b) t) too_long
+    → min (fold with_digit v (take (cond c (suc (digit_count t)) 0) (b ∷ t))) too_long ≡ min (cond c (digit_value (v * 10 + (b - 48)) t) v) too_long
+folded_by true b v t h = h ∙ alike t (with_digit v b) (v * 10 + (b - 48)) (with_is v b)
+folded_by false b v t h = refl
 
-    pub value_next : (w : ℕ) → min w too_long ≡ min (value * 10 + (get_or t at 0 - 48)) too_long
-        → min (digit_value start t) too_long ≡ min (digit_value w (drop (at + 1) t)) too_long
-    unfolding digit_value
-    value_next w f =
-        r ∙ rw (add-one, drop-cons t at 0 h, e) (alike (drop (suc at) t) (value * 10 + (get_or t at 0 - 48)) w (sym f))
+-- the digits, one after the other
+folded : (t : List ℕ) (v : ℕ) → min (fold with_digit v (take (digit_count t) t)) too_long ≡ min (digit_value v t) too_long
+unfolding digit_count digit_value
+folded [] v = refl
+folded (b ∷ t) v = folded_by (is_digit b) b v t (folded t (with_digit v b))
+
+-- what digits_of counts and folds
+pub digits_are : (t : List ℕ) (start value count : ℕ) → count ≡ unwrap_or (position (λ b. not (is_digit b)) t) (length t) → value ≡ fold with_digit start (take count t) → DigitsFrom t 0 start value count count
+digits_are t start value count e f =
+    let p = position_or_len (λ b. not (is_digit b)) t in
+    let n : count ≡ digit_count t = e ∙ found_by (ltb p (length t)) p (length t) refl (prefix_len-le-length _ t) ∙ sym (count_is t) in
+    (ap (λ (x : ℕ). min x too_long) (f ∙ ap (λ i. fold with_digit start (take i t)) n) ∙ folded t start, n, omega arith)
 
 -- the verdict on a text, from what digits_of answers
 module _ (t : List ℕ) (most value count : ℕ) (p : DigitsFrom t 0 0 value count count) where

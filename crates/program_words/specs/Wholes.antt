@@ -19,6 +19,10 @@ unfoldable pub digit_value : ℕ → List ℕ → ℕ
 digit_value v [] = v
 digit_value v (b ∷ t) = cond (is_digit b) (digit_value (v * 10 + (b - 48)) t) v
 
+-- The value of one digit more; too long a value stays.
+unfoldable pub with_digit : ℕ → ℕ → ℕ
+with_digit value b = cond (nat_lt value too_long) (value * 10 + (b - 48)) value
+
 -- What digits_of answers: their value as far as it is below 10^15, how many there are, and the place past them.
 abbrev pub DigitsFrom : List ℕ → ℕ → ℕ → ℕ → ℕ → ℕ → Type 0
 DigitsFrom t from start value count at =

@@ -1,8 +1,10 @@
 // Numbers in options. A real number is an optional sign, digits with at most one point, and an optional exponent; at most 15 digits count, and
 // the point may be moved by at most 22 places. So the digits and the power of ten are exact in an f64, and the one product or quotient is the
 // f64 nearest to what was written. A setting that is an f32 is that f64 rounded again: the f32 nearest to what was written, for up to 12 decimals.
+// No `parse`: a u64's takes `+7`, and whole_of promises that it takes none; an f64's takes `inf`, `nan` and any number of digits, so that each number
+// would be read twice, once for its form.
 ghost use Rattle.std.specs.Prelude.{◌≡◌, ◌+◌, ◌-◌, ◌*◌, min, drop};
-ghost use Rattle.program_words.specs.Wholes.{too_long, DigitsFrom, whole_of};
+ghost use Rattle.program_words.specs.Wholes.{too_long, with_digit, DigitsFrom, whole_of};
 
 // From here on the digits are too many.
 const TOO_LONG: u64 = 1_000_000_000_000_000;
@@ -20,8 +22,9 @@ struct Digits<'a> {
     rest: &'a [u8],
 }
 
+#[tactic(auto, unfolding(crate::specs::Wholes::with_digit))]
 fn with_digit(value: u64, b: u8) -> u64
-    ensures { min result too_long ≡ min (value * 10 + (b - 48)) too_long }
+    ensures { result ≡ with_digit value b }
 {
     if value < TOO_LONG {
         value * 10 + u64::from(b.saturating_sub(b'0'))
@@ -31,27 +34,17 @@ fn with_digit(value: u64, b: u8) -> u64
 }
 
 // The digits that a text starts with.
-#[tactic(auto, using(crate::proofs::Wholes::count_next, crate::proofs::Wholes::value_next))]
 fn digits_of(t: &[u8], start: u64) -> Digits<'_>
     ensures digits { DigitsFrom t.now 0 start result.value result.count result.count }
     ensures rest { result.rest.now ≡ drop result.count t.now }
 {
-    let mut value = start;
-    for (count, b) in t.iter().enumerate() {
-        if !b.is_ascii_digit() {
-            return Digits {
-                value,
-                count,
-                rest: &t[count..],
-            };
-        }
-        value = with_digit(value, *b);
-    }
-    Digits {
-        value,
-        count: t.len(),
-        rest: &[],
-    }
+    let count = t
+        .iter()
+        .position(|b| !b.is_ascii_digit())
+        .unwrap_or(t.len());
+    let (digits, rest) = t.split_at(count);
+    let value = digits.iter().fold(start, |value, b| with_digit(value, *b));
+    Digits { value, count, rest }
 }
 
 // A whole number up to `most` and below 10^15.
