@@ -6,7 +6,8 @@ use std::fmt;
 use std::fmt::Write;
 use std::marker::Model;
 
-// A page of N bytes, and how many of them are used.
+// A page of N bytes, and how many of them are used. No `ArrayVec` inside: it takes all of a text or none, so that `words` would cut as it does here,
+// and its `clear` blanks what is used.
 #[derive(Drop)]
 pub struct Page<const N: usize> {
     bytes: [u8; N],
@@ -71,7 +72,7 @@ impl<const N: usize> Page<N> {
         self.words(list.split(|b| *b == b'\n').nth(number).unwrap_or(&[]));
     }
 
-    // A number in decimal digits.
+    // A number in decimal digits. No `write!`: it says what it wrote where it answers Ok, and nothing says that it does.
     #[tactic(auto, using(crate::proofs::Numerals::numeral_is))]
     pub fn count(&mut self, n: u64)
         ensures { self.new ≡ written N self.old (numeral n) }
@@ -82,6 +83,7 @@ impl<const N: usize> Page<N> {
     }
 
     // x in scientific notation with nine digits; a zero, an infinity and a NaN are `0`, `inf` and `nan`, the first two with their sign.
+    // No `{x:.8e}`: it brings a tie to the even digit, so that 1.017578125 would be 1.01757812e0 and not 1.01757813e0, and a zero is 0.00000000e0 there.
     pub fn float(&mut self, x: f32) {
         if x.is_nan() {
             return self.words(b"nan");
@@ -100,11 +102,8 @@ impl<const N: usize> Page<N> {
 
     fn magnitude(&mut self, v: f64) {
         let Scaled { digits, exponent } = nine_digits(v);
-        let mut d = [0u8; 20];
-        io::decimal(digits, &mut d);
-        self.words(&[d[0], b'.']);
-        self.words(&d[1..9]);
-        let _ = write!(self, "e{exponent}");
+        let (first, others) = (digits / 100_000_000, digits % 100_000_000);
+        let _ = write!(self, "{first}.{others:08}e{exponent}");
     }
 }
 
