@@ -1,6 +1,7 @@
 -- How far a pass over floats and bytes has come: what is stored so far, and the rest by the definition. Assumes nothing.
-use Rattle.std.proofs.Common.{◌≡◌, refl, sym, ◌∙◌, ℕ, suc, ◌+◌, ◌*◌, ◌/◌, ◌%◌, ◌<◌, ◌≤◌, min, List, [], ◌∷◌, ◌++◌, append_assoc, length, get_or, take, drop, drop-cons, set, length-append, length-drop, take-append-drop, arith}
+use Rattle.std.proofs.Common.{◌≡◌, refl, sym, ap, ◌∙◌, ℕ, zero, suc, ◌+◌, ◌*◌, ◌/◌, ◌%◌, ◌<◌, ◌≤◌, min, List, [], ◌∷◌, ◌++◌, append_assoc, length, get_or, take, drop, drop-cons, drop-drop, set, length-append, length-drop, take-append-drop, arith}
 use Rattle.std.specs.Int.{w32, to_le_bytes}
+use Rattle.std.specs.Simd.{first_chunks}
 use Rattle.std.proofs.lemmas.List.{take_more_set, drop-set-lt, set-append_left}
 use Rattle.std.proofs.lemmas.Slice.{take-put_mid, drop-put_mid}
 use borrow.Rule.Slice.PartMut.{put_mid}
@@ -20,6 +21,19 @@ four bs j h =
       next bs (j + 2) (j + 3) 0 (omega arith) (omega arith),
       next bs (j + 3) (j + 4) 0 (omega arith) (omega arith),
     )
+
+-- the i-th of k chunks of four bytes
+chunk : (k i : ℕ) (bs : List ℕ) → i < k → 4 * k ≤ length bs → get_or (first_chunks 4 k bs) i [] ≡ take 4 (drop (4 * i) bs)
+chunk zero i bs h l = absurd (omega arith)
+chunk (suc k) zero bs h l = refl
+chunk (suc k) (suc i) bs h l =
+    let e : 4 * suc i ≡ 4 + 4 * i = omega arith in
+    let m : 4 * k ≤ length (drop 4 bs) = simp length-drop (omega arith) in
+    chunk k i (drop 4 bs) (omega arith) m ∙ rw (e, drop-drop)
+
+pub chunk_is : (k i : ℕ) (bs : List ℕ) → i < k → 4 * k ≤ length bs
+    → get_or (first_chunks 4 k bs) i [] ≡ get_or bs (4 * i) 0 ∷ get_or bs (4 * i + 1) 0 ∷ get_or bs (4 * i + 2) 0 ∷ get_or bs (4 * i + 3) 0 ∷ []
+chunk_is k i bs h l = chunk k i bs h l ∙ ap (take 4) (four bs (4 * i) (omega arith))
 
 -- ---- floats from bytes
 

@@ -11,7 +11,8 @@ fn word_at(b: &[u8], i: usize) -> u32
     requires { 4 * i + 4 ≤ length b.now }
     ensures { result ≡ word_at b.now i }
 {
-    u32::from_le_bytes([b[4 * i], b[4 * i + 1], b[4 * i + 2], b[4 * i + 3]])
+    let (words, _) = b.as_chunks::<4>();
+    u32::from_le_bytes(words[i])
 }
 
 // The float of a pattern; every NaN is taken alike.

@@ -98,13 +98,8 @@ fn seen_of(found: Result<Metadata>) -> Seen {
             };
             Seen::There(kind_of(of.file_type()), file)
         }
-        Err(e) => {
-            if e.kind() == ErrorKind::NotFound {
-                Seen::Missing
-            } else {
-                Seen::Hidden
-            }
-        }
+        Err(e) if e.kind() == ErrorKind::NotFound => Seen::Missing,
+        Err(_) => Seen::Hidden,
     }
 }
 
