@@ -1,2 +1,3 @@
--- Tables: the rows, computed.
+-- Tables: the rows, computed. Worded: the texts of no path.
 pub mod Tables
+pub mod Worded

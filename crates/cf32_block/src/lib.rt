@@ -5,15 +5,31 @@ ghost use Rattle.std.specs.Prelude.{◌≡◌};
 ghost use Rattle.definition.specs.Calls.{equalize_def};
 ghost use Rattle.definition.specs.Packed.{equalizer, answered};
 ghost use Rattle.cf32_block.specs.Block.{bytes_answer, block_def};
+ghost use Rattle.cf32_block.specs.Paths.{path_with};
 
-use types::{EqualizeState, Equalized};
+use types::{EqualizeState, Equalized, UnknownWord};
 
 // By which path a call goes; the answer is the same.
 #[derive(Clone, Copy, Debug, PartialEq, Eq)]
 pub enum Path {
     Plain,
-    // The quick or the joint one.
+    // Whichever is quickest.
     Fast,
+}
+
+impl TryFrom<&[u8]> for Path {
+    type Error = UnknownWord;
+
+    #[tactic(auto, using(crate::proofs::Worded::no_word))]
+    fn try_from(word: &[u8]) -> Result<Path, UnknownWord>
+        ensures { result ≡ path_with word.now }
+    {
+        match word {
+            b"plain" => Ok(Path::Plain),
+            b"fast" => Ok(Path::Fast),
+            _ => Err(UnknownWord),
+        }
+    }
 }
 
 impl Path {
