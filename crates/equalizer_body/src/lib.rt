@@ -125,7 +125,8 @@ fn parts_of(o: &Options) -> usize
     2 * (o.taps.min(most) + o.params.feedback_taps.min(most))
 }
 
-// The equalizer of a run: its record, and room for weights and window, of which `parts` floats are used.
+// The equalizer of a run: its record, and room for weights and window, of which `parts` floats are used. No `ArrayVec`: two would have a length each,
+// to be filled with zeros first, and the two are to be of one length.
 #[derive(Drop)]
 struct Equalizer {
     state: EqualizeState,

@@ -143,14 +143,6 @@ fn block_of(t: &[u8]) -> Option<usize> {
     (n > 0).then_some(n)
 }
 
-fn path_of(t: &[u8]) -> Option<Path> {
-    match t {
-        b"plain" => Some(Path::Plain),
-        b"fast" => Some(Path::Fast),
-        _ => None,
-    }
-}
-
 // The Rust's settings, and 11 taps.
 impl Default for Options {
     fn default() -> Options {
@@ -160,7 +152,7 @@ impl Default for Options {
             frequency: 0.0,
             ways: Ways {
                 path: Path::Fast,
-                block: 4096,
+                block: equalizer_stream::MOST,
                 text: false,
             },
             about: None,
@@ -194,7 +186,7 @@ impl Options {
             Setting::Constellation => {
                 self.params.constellation = EqConstellation::try_from(t).ok()?;
             }
-            Setting::Path => self.ways.path = path_of(t)?,
+            Setting::Path => self.ways.path = Path::try_from(t).ok()?,
         }
         Some(())
     }
@@ -260,7 +252,7 @@ fn text_of(rt: &HostRuntime, v: Value) -> Result<arguments::Text, Fault> {
 }
 
 // The options of the arguments from `start` to before `end`. Every turn takes an argument or two, so there are no more turns than arguments,
-// and the place goes on by itself. No `while`: a proof that it ends would want of `take` a promise that the place goes on, and a measure.
+// and the place goes on by itself. No iterator of places: a `for` over one cannot lend it to `take` too. No `while`: a proof that it ends would want of `take` a promise that the place goes on, and a measure.
 pub(crate) fn read(rt: &HostRuntime, start: usize, end: usize) -> Result<Options, Fault> {
     let mut o = Options::default();
     let mut at = start;

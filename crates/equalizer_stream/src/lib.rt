@@ -12,8 +12,12 @@ use std::io;
 use std::io::{Read, Write};
 use types::{EqualizeState, Error, Mark};
 
-// The most samples that are read at once.
-const MOST: usize = 4096;
+// The most samples that are read at once, and that a call takes; their floats, and their bytes.
+pub const MOST: usize = 4096;
+
+const FLOATS: usize = 2 * MOST;
+
+const BYTES: usize = 8 * MOST;
 
 // How a stream is served: by which path, how many samples a call, as text or as bytes.
 #[derive(Clone, Copy)]
@@ -47,9 +51,9 @@ impl Ways {
 pub struct Files<'a> {
     pub input: Source<'a>,
     pub at_hand: bool,
-    pub output: Sink<'a>,
-    pub marks: Sink<'a>,
-    pub curve: Sink<'a>,
+    pub output: Option<Sink<'a>>,
+    pub marks: Option<Sink<'a>>,
+    pub curve: Option<Sink<'a>>,
 }
 
 #[derive(Clone, Copy, Default)]
@@ -119,7 +123,8 @@ struct Filled {
     more: io::Result<bool>,
 }
 
-// Reads until raw is full, the input ends or a read fails. A `while`: it goes on by what a read gave, and counts no index.
+// Reads until raw is full, the input ends or a read fails. A `while`: a read tells how far it came, and no call of the library fills partly and
+// says how far.
 fn fill(mut input: Source<'_>, raw: &mut [u8]) -> Filled
     ensures { result.bytes ≤ length raw.old }
 {
@@ -195,11 +200,10 @@ fn point(p: &mut Page<128>, t: Tally, s: EqualizeState) {
 }
 
 // Writes a point, where a curve is wanted.
-fn drawn(curve: Sink<'_>, t: Tally, s: EqualizeState) -> io::Result<()> {
-    if !curve.is_wanted() {
+fn drawn(curve: Option<Sink<'_>>, t: Tally, s: EqualizeState) -> io::Result<()> {
+    let Some(mut to) = curve else {
         return Ok(());
-    }
-    let mut to = curve;
+    };
     let mut p: Page<128> = Page::new();
     point(&mut p, t, s);
     to.write_all(p.bytes())
@@ -225,9 +229,9 @@ impl Span {
 // The bytes and marks of at most 4,096 samples: as they were read, and what the calls gave.
 #[derive(Drop)]
 struct Room {
-    raw: [u8; 32768],
-    out: [u8; 32768],
-    marks: [u8; 4096],
+    raw: [u8; BYTES],
+    out: [u8; BYTES],
+    marks: [u8; MOST],
 }
 
 impl Room {
@@ -297,7 +301,7 @@ impl Stream<'_> {
         let called = if span.len() <= 64 {
             room.equalize::<128>(path, state, self.weights, self.window, span)
         } else {
-            room.equalize::<8192>(path, state, self.weights, self.window, span)
+            room.equalize::<FLOATS>(path, state, self.weights, self.window, span)
         };
         let state = called.map_err(Ending::Refused)?;
         for mark in room.marks(span) {
@@ -331,9 +335,11 @@ impl Stream<'_> {
 
     // Writes symbols, as text or as bytes.
     fn write_symbols(&self, room: &Room, span: Span) -> io::Result<()> {
-        let mut to = self.files.output;
+        let Some(mut to) = self.files.output else {
+            return Ok(());
+        };
         if self.ways.text {
-            let mut y = [0.0f32; 8192];
+            let mut y = [0.0f32; FLOATS];
             let y = &mut y[..2 * span.len()];
             cf32::floats(room.symbols(span), y);
             return lines(to, y, room.marks(span));
@@ -345,8 +351,7 @@ impl Stream<'_> {
     fn deliver(&self, room: &Room, span: Span) -> Result<(), Ending> {
         self.write_symbols(room, span)
             .map_err(|e| Ending::Unwritten(Target::Symbols, e))?;
-        let mut to = self.files.marks;
-        if to.is_wanted() {
+        if let Some(mut to) = self.files.marks {
             to.write_all(room.marks(span))
                 .map_err(|e| Ending::Unwritten(Target::Marks, e))?;
         }
@@ -379,9 +384,9 @@ impl Stream<'_> {
     fn run(&mut self) -> Result<(), Ending> {
         let want = self.ways.at_once(self.files.at_hand);
         let mut room = Room {
-            raw: [0; 32768],
-            out: [0; 32768],
-            marks: [0; 4096],
+            raw: [0; BYTES],
+            out: [0; BYTES],
+            marks: [0; MOST],
         };
         for _ in 0..u64::MAX {
             if !self.turn(&mut room, want)? {

@@ -9,8 +9,8 @@ use std::fs::{File, OpenOptions};
 use std::io::{Error, ErrorKind, Read, Seek, Stdin, Stdout, Write};
 use std::{fs, io};
 
-// The system's number of a name that is no text: the library has no kind for this error, so that its words go by the number.
-const EILSEQ: i32 = 84;
+// What stands behind the name of an output that is not whole.
+const PART: &[u8] = b".part";
 
 // An input: standard input, or a file that is open.
 #[derive(Drop)]
@@ -73,8 +73,6 @@ pub struct PartFile {
 
 #[derive(Drop)]
 pub enum Output {
-    // It is not wanted.
-    Nowhere,
     Standard,
     Named(PartFile),
 }
@@ -82,8 +80,6 @@ pub enum Output {
 // What an output is written to.
 #[derive(Clone, Copy)]
 pub enum Sink<'a> {
-    // It is not wanted.
-    Nowhere,
     Standard(Stdout),
     Named(&'a File),
 }
@@ -91,18 +87,8 @@ pub enum Sink<'a> {
 impl Output {
     pub fn sink(&self, rt: &HostRuntime) -> Sink<'_> {
         match self {
-            Output::Nowhere => Sink::Nowhere,
             Output::Standard => Sink::Standard(rt.stdout()),
             Output::Named(part) => Sink::Named(&part.file),
-        }
-    }
-}
-
-impl Sink<'_> {
-    pub fn is_wanted(self) -> bool {
-        match self {
-            Sink::Nowhere => false,
-            Sink::Standard(_) | Sink::Named(_) => true,
         }
     }
 }
@@ -110,7 +96,6 @@ impl Sink<'_> {
 impl Write for Sink<'_> {
     fn write(&mut self, buf: &[u8]) -> io::Result<usize> {
         match *self {
-            Sink::Nowhere => Ok(buf.len()),
             Sink::Standard(mut stdout) => stdout.write(buf),
             Sink::Named(mut file) => file.write(buf),
         }
@@ -123,16 +108,16 @@ impl Write for Sink<'_> {
 
 // A name as the text that std::fs takes.
 fn named(bytes: &[u8]) -> io::Result<&str> {
-    str::from_utf8(bytes).map_err(|_| Error::from_raw_os_error(EILSEQ))
+    str::from_utf8(bytes).map_err(|_| Error::from(ErrorKind::InvalidData))
 }
 
 // A value and `.part`, where there is room for it and the 0 behind it.
 fn part_name(rt: &HostRuntime, v: Value) -> io::Result<Text> {
     let mut name = arguments::text_of(rt, v);
-    if name.room() < 6 {
+    if name.room() <= PART.len() {
         return Err(Error::from(ErrorKind::InvalidFilename));
     }
-    name.words(b".part");
+    name.words(PART);
     Ok(name)
 }
 
@@ -298,15 +283,20 @@ impl Program<'_> {
     }
 
     // Makes a named output beside others: no two of them are one file.
-    fn made_beside(self, v: Value, input: Seen, others: &[&Output]) -> Result<Output, Told> {
+    fn made_beside(
+        self,
+        v: Value,
+        input: Seen,
+        others: &[Option<&Output>],
+    ) -> Result<Output, Told> {
         for other in others {
-            if let Output::Named(part) = *other {
+            if let Some(Output::Named(part)) = *other {
                 self.apart(v, part)?;
             }
         }
         let made = self.made(v, input)?;
         for other in others {
-            if let (Output::Named(part), Output::Named(new)) = (*other, &made) {
+            if let (Some(Output::Named(part)), Output::Named(new)) = (*other, &made) {
                 if let Err(told) = self.apart(part.name, new) {
                     self.dropped(made);
                     return Err(told);
@@ -316,17 +306,17 @@ impl Program<'_> {
         Ok(made)
     }
 
-    // Makes an output beside others that are made; standard output and no output are as they are.
+    // Makes an output, where one is wanted, beside others that are made; standard output is as it is.
     pub fn output(
         self,
         name: Option<Name>,
         input: Seen,
-        others: &[&Output],
-    ) -> Result<Output, Told> {
+        others: &[Option<&Output>],
+    ) -> Result<Option<Output>, Told> {
         match name {
-            None => Ok(Output::Nowhere),
-            Some(Name::Standard) => self.standing(input),
-            Some(Name::File(v)) => self.made_beside(v, input, others),
+            None => Ok(None),
+            Some(Name::Standard) => self.standing(input).map(Some),
+            Some(Name::File(v)) => self.made_beside(v, input, others).map(Some),
         }
     }
 

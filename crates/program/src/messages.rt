@@ -11,7 +11,7 @@ pub struct Program<'a> {
     pub name: &'static [u8],
 }
 
-// A part of a line.
+// A part of a line. No `write!` of all of a line: a value may be no UTF-8, so that a line is made of bytes, and a float and an error have their own words.
 #[derive(Clone, Copy)]
 pub enum Part<'a> {
     Words(&'a [u8]),
@@ -67,11 +67,12 @@ fn reason(e: Error) -> &'static [u8] {
         ErrorKind::InvalidFilename => b"the name is too long",
         ErrorKind::FilesystemLoop => b"too many links lead on",
         ErrorKind::QuotaExceeded => b"the quota is used up",
+        ErrorKind::InvalidData => b"the name is no text in UTF-8",
         _ => numbered_reason(e),
     }
 }
 
-// By the system's number: these have no kind, or 1 and 13 have the same.
+// By the system's number: these have no kind, or 1 and 13 have the same. 84 is that of a file system that takes only names in its encoding.
 fn numbered_reason(e: Error) -> &'static [u8] {
     match e.raw_os_error() {
         Some(1) => b"it is not permitted",
