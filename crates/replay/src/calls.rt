@@ -111,7 +111,7 @@ where
             .is(last.state, weights.as_slice(), window.as_slice())
 }
 
-// By the plain path, and by the quick and the joint path.
+// By the plain path, and by whichever is quickest.
 pub(crate) fn agrees(w: &[u64]) -> Option<bool> {
     let case = Case::of(w)?;
     let Some(start) = records::record_of(case.record) else {
