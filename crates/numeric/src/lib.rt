@@ -1,4 +1,4 @@
-// Numeric helpers: the Rust's num.rs, its clip, and the narrowing of an f64 on the bits.
+// Floats: the Rust's num.rs, its clip, and the narrowing of an f64 on the bits.
 #![tactic(auto)]
 
 ghost use Rattle.std.specs.Prelude.{◌≡◌, cond, ◌+◌, ◌^◌, ◌≤◌, ◌<◌, leb};
