@@ -1,7 +1,7 @@
 -- The record rules: one law for each exit of the tests. Assumes nothing.
 use Prim.Native.Nat.{ℕ, ◌-◌, ◌/◌}
 use mathlib.Core.Path.{◌≡◌}
-use mathlib.Core.Bool.{Bool, true, false, not, ◌&&◌}
+use mathlib.Core.Bool.{Bool, not, ◌&&◌}
 use mathlib.Core.List.{List}
 use lib.ListN.{length}
 use lib.Dec.{eqb, ltb}
@@ -12,8 +12,8 @@ use Rattle.types.specs.declared.LoopGains.{LoopGains}
 use Rattle.types.specs.declared.EqualizeState.{EqualizeState}
 use Rattle.definition.specs.Gains.{phase_damping, loop_gains}
 use Rattle.definition.specs.Packed.{equalizer}
-use Rattle.definition.specs.Sample.{Equalizer, never_switch}
-use Rattle.definition.specs.Rules.{same_bits, feedback_fits, taps_fit, mu_fits, bw_fits, count_fits, rule_r1, rule_r2, rule_r3, rule_r4, rules}
+use Rattle.definition.specs.Sample.{never_switch}
+use Rattle.definition.specs.Rules.{same_bits, feedback_fits, taps_fit, mu_fits, bw_fits, count_fits, rule_r1, rule_r2, rule_r4}
 
 -- ---- R1
 
@@ -43,14 +43,3 @@ module _ (s : EqualizeState) where
   pub r4_decision : s.mode ≡ Decision → (not (eqb s.params.cma_symbols 4294967295) && eqb s.count s.params.cma_symbols) ≡ rule_r4 s
   unfolding rule_r4 count_fits
   r4_decision m = rw m
-
--- ---- all four: R1 alone, where it fails, or with the others
-
-module _ (q : Equalizer) (a : Bool) (e : a ≡ rule_r1 q) where
-  pub rules_shape : a ≡ false → false ≡ rules q
-  unfolding rules
-  rules_shape f = rw (← e, f)
-
-  pub rules_rest : a ≡ true → (b c d : Bool) → b ≡ rule_r2 q.state → c ≡ rule_r3 q → d ≡ rule_r4 q.state → (b && c && d) ≡ rules q
-  unfolding rules
-  rules_rest t b c d x y z = rw (← e, t, ← x, ← y, ← z)

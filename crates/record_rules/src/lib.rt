@@ -34,7 +34,7 @@ pub fn taps_fit(n: usize) -> bool
     (n % 2 == 1) & (3..=63).contains(&n)
 }
 
-// From 0.00001 to 1. The ranges stand here and not in constants: a constant's value may call nothing, and a range is a call.
+// From 0.00001 to 1. The ranges stand here and not in constants: a constant's value may call no function of std, and a range is one.
 #[tactic(auto, unfolding(definition::specs::Rules::mu_fits), using(crate::proofs::Ranges::in_floats))]
 pub fn check_mu(mu: f32) -> bool
     ensures { result ≡ mu_fits mu }
@@ -75,7 +75,7 @@ fn freq_fits(v: f32) -> bool
     plus_zero(v) | (numeric::TINY..=EqualizeState::PHASE_MAX_FREQ).contains(&a)
 }
 
-// n - m, or 0 where there are fewer.
+// n - m, or 0 where there are fewer. Of numbers, since `new` asks it before there is a record; of a record, `EqualizeState::taps` says it.
 pub fn forward(n: usize, m: usize) -> usize
     ensures { result ≡ n - m }
 {
@@ -143,12 +143,9 @@ fn rule_r4(s: EqualizeState) -> bool
 
 // R1 to R4. R1 bounds both lengths, to 126 complex numbers, and is tried alone first: a longer slice is answered before a part of it is read. Test 1 has
 // asked for whole numbers, so at most 252 parts each of weights and window are looked at.
-#[tactic(auto, using(crate::proofs::Records::rules_shape, crate::proofs::Records::rules_rest))]
+#[tactic(auto, unfolding(definition::specs::Rules::rules))]
 pub fn rules(s: EqualizeState, w: &[f32], h: &[f32]) -> bool
     ensures { result ≡ rulesDef (equalizer s w.now h.now) }
 {
-    if !rule_r1(s, w, h) {
-        return false;
-    }
-    rule_r2(s) & rule_r3(s, w, h) & rule_r4(s)
+    rule_r1(s, w, h) && (rule_r2(s) & rule_r3(s, w, h) & rule_r4(s))
 }
