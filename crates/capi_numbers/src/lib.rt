@@ -46,7 +46,7 @@ pub struct EqReply {
 }
 
 impl EqSettings {
-    // Whether the number of the constellation is known.
+    // Whether the number of the constellation is known. Only the record's asks; what it promises stays.
     #[tactic(auto, unfolding(crate::specs::RawRecord::known_settings))]
     pub fn is_known(self) -> bool
         ensures { result ≡ known_settings self }
@@ -77,10 +77,13 @@ impl TryFrom<EqSettings> for EqParams {
     fn try_from(p: EqSettings) -> Result<EqParams, UnknownNumber>
         ensures { result ≡ read_settings p }
     {
-        let constellation = EqConstellation::try_from(p.constellation)?;
         Ok(EqParams {
-            constellation,
-            ..p.params()
+            constellation: EqConstellation::try_from(p.constellation)?,
+            feedback_taps: p.feedback_taps,
+            mu_cma: p.mu_cma,
+            mu_dd: p.mu_dd,
+            cma_symbols: p.cma_symbols,
+            phase_bw: p.phase_bw,
         })
     }
 }
@@ -94,7 +97,7 @@ impl EqRecord {
         EqRecord::default()
     }
 
-    // Whether the numbers of the constellation and the mode are known.
+    // Whether the numbers of the constellation and the mode are known. No call here asks; what it promises stays.
     #[tactic(auto, unfolding(crate::specs::RawRecord::known_record))]
     pub fn is_known(self) -> bool
         ensures { result ≡ known_record self }
@@ -127,12 +130,15 @@ impl TryFrom<EqRecord> for EqualizeState {
     fn try_from(r: EqRecord) -> Result<EqualizeState, UnknownNumber>
         ensures { result ≡ read_record r }
     {
-        let params = EqParams::try_from(r.settings)?;
-        let mode = EqMode::try_from(r.mode)?;
         Ok(EqualizeState {
-            params,
-            mode,
-            ..r.state()
+            params: EqParams::try_from(r.settings)?,
+            kp: r.kp,
+            ki: r.ki,
+            mode: EqMode::try_from(r.mode)?,
+            count: r.count,
+            mse: r.mse,
+            phase: r.phase,
+            freq: r.freq,
         })
     }
 }
