@@ -32,10 +32,10 @@ fits_some n h = leb→le 3 n (subst T (sym (and_parts (eqb (n % 2) 1) (leb 3 n) 
 
 module _ (p : EqParams) (w h : List Float) (v : Outcome) (e : v ≡ new_verdict p (length w) (length h)) where
   -- what `start_over` asks
-  pub new_fits : v ≡ (Ok tt) → (f : ℕ) → f ≡ length w / 2 - p.feedback_taps
-      → (length w ≡ 2 * (length w / 2)) × ((length h ≡ 2 * (length w / 2)) × ((1 ≤ f) × (f ≤ length w / 2)))
+  pub new_fits : v ≡ (Ok tt)
+      → (length w ≡ 2 * (length w / 2)) × ((length h ≡ 2 * (length w / 2)) × (1 ≤ length w / 2 - p.feedback_taps))
   unfolding new_verdict new_tests
-  new_fits d f a =
+  new_fits d =
       let x = fine (even (length w) && even (length h)) Odd _ (sym e ∙ d) in
       let y = fine _ Feedback _ x.1 in
       let z = fine _ Taps _ y.1 in
@@ -45,16 +45,16 @@ module _ (p : EqParams) (w h : List Float) (v : Outcome) (e : v ≡ new_verdict 
       let H : length h % 2 ≡ 0 = eqb-true _ _ o.1 in
       let S : length h / 2 ≡ length w / 2 = eqb-true _ _ u.0 in
       let B : 3 ≤ length w / 2 - p.feedback_taps = fits_some _ z.0 in
-      (omega arith, (omega arith, (omega arith, omega arith)))
+      (omega arith, (omega arith, omega arith))
 
   pub new_refused : (x : Error) → v ≡ Err x → made (Err x) w h ≡ new_def p w h
   unfolding new_def
   new_refused x d = rw (← e, d)
 
-  pub new_done : v ≡ (Ok tt) → (f : ℕ) (t : EqualizeState) (w' h' : List Float) → f ≡ length w / 2 - p.feedback_taps → t ≡ fresh_state p
-      → w' ≡ start_weights (length w / 2) (f / 2) → h' ≡ zeros (2 * (length w / 2)) → made (Ok t) w' h' ≡ new_def p w h
+  pub new_done : v ≡ (Ok tt) → (t : EqualizeState) (w' h' : List Float) → t ≡ fresh_state p
+      → w' ≡ start_weights (length w / 2) ((length w / 2 - p.feedback_taps) / 2) → h' ≡ zeros (2 * (length w / 2)) → made (Ok t) w' h' ≡ new_def p w h
   unfolding new_def start_over fresh_state start_state
-  new_done d f t w' h' a b c k = rw (← e, d, b, c, k, a)
+  new_done d t w' h' b c k = rw (← e, d, b, c, k)
 
 -- ---- reset
 
@@ -63,15 +63,15 @@ module _ (s : EqualizeState) (w h : List Float) (v : Outcome) (p : v ≡ reset_v
   unfolding reset_def
   reset_refused e d = rw (← p, d)
 
-  pub reset_done : v ≡ (Ok tt) → (f : ℕ) (t : EqualizeState) (r : Equalized) (w' h' : List Float) → f ≡ length w / 2 - s.params.feedback_taps → t ≡ start_state s.params s.kp s.ki
-      → w' ≡ start_weights (length w / 2) (f / 2) → h' ≡ zeros (2 * (length w / 2)) → r ≡ record { state = t; outcome = Ok tt } → reset_to r w' h' ≡ reset_def (equalizer s w h)
+  pub reset_done : v ≡ (Ok tt) → (t : EqualizeState) (r : Equalized) (w' h' : List Float) → t ≡ start_state s.params s.kp s.ki
+      → w' ≡ start_weights (length w / 2) ((length w / 2 - s.params.feedback_taps) / 2) → h' ≡ zeros (2 * (length w / 2)) → r ≡ record { state = t; outcome = Ok tt } → reset_to r w' h' ≡ reset_def (equalizer s w h)
   unfolding reset_def start_over start_state
-  reset_done d f t r w' h' a b c k z = rw (z, ← p, d, b, c, k, a)
+  reset_done d t r w' h' b c k z = rw (z, ← p, d, b, c, k)
 
-  pub reset_fits : v ≡ (Ok tt) → (f : ℕ) → f ≡ length w / 2 - s.params.feedback_taps
-      → (length w ≡ 2 * (length w / 2)) × ((length h ≡ 2 * (length w / 2)) × ((1 ≤ f) × (f ≤ length w / 2)))
+  pub reset_fits : v ≡ (Ok tt)
+      → (length w ≡ 2 * (length w / 2)) × ((length h ≡ 2 * (length w / 2)) × (1 ≤ length w / 2 - s.params.feedback_taps))
   unfolding reset_verdict rule_r1
-  reset_fits d f a =
+  reset_fits d =
       let x = fine (even (length w) && even (length h)) Odd _ (sym p ∙ d) in
       let y = fine (rule_r1 (equalizer s w h) && rule_r2 s) Record _ x.1 in
       let o = and_parts (even (length w)) (even (length h)) x.0 in
@@ -81,4 +81,4 @@ module _ (s : EqualizeState) (w h : List Float) (v : Outcome) (p : v ≡ reset_v
       let H : length h % 2 ≡ 0 = eqb-true _ _ o.1 in
       let S : length w / 2 ≡ length h / 2 = eqb-true _ _ r.1 in
       let B : 3 ≤ length w / 2 - s.params.feedback_taps = fits_some _ t.1 in
-      (omega arith, (omega arith, (omega arith, omega arith)))
+      (omega arith, (omega arith, omega arith))

@@ -2,19 +2,21 @@
 // taps, then feedback taps, newest first in each.
 #![tactic(auto)]
 
-ghost use Rattle.std.specs.Prelude.{◌≡◌, ◌*◌, ◌/◌, ◌≤◌, length};
+ghost use Rattle.std.specs.Prelude.{◌≡◌, ◌-◌, ◌*◌, ◌/◌, ◌≤◌, cond, length};
 ghost use Rattle.definition.specs.Slices.{zeros, start_weights};
 ghost use Rattle.definition.specs.Packed.{equalizer, made, reset_to, settled};
-ghost use Rattle.definition.specs.Calls.{fresh_state, new_def, reset_def, set_mu_cma_def, set_mu_dd_def, set_frequency_def};
+ghost use Rattle.definition.specs.Rules.{mu_fits};
+ghost use Rattle.definition.specs.Calls.{set_answer, with_params, fresh_state, new_def, reset_def, set_mu_cma_def, set_mu_dd_def, set_frequency_def};
 
 use types::{EqParams, EqualizeState, Equalized, Error};
 
-// The start weights and a window of zeros: n taps, f of them forward.
-fn start_over(w: &mut [f32], h: &mut [f32], n: usize, f: usize)
-    requires { (length w.old ≡ 2 * n) × ((length h.old ≡ 2 * n) × ((1 ≤ f) × (f ≤ n))) }
-    ensures { (w.new ≡ start_weights n (f / 2)) × (h.new ≡ zeros (2 * n)) }
+// The start weights and a window of zeros, with m feedback taps.
+fn start_over(w: &mut [f32], h: &mut [f32], m: usize)
+    requires { (length w.old ≡ 2 * (length w.old / 2)) × ((length h.old ≡ 2 * (length w.old / 2)) × (1 ≤ length w.old / 2 - m)) }
+    ensures { (w.new ≡ start_weights (length w.old / 2) ((length w.old / 2 - m) / 2)) × (h.new ≡ zeros (2 * (length w.old / 2))) }
 {
-    record_start::start_weights(w, n, f);
+    let n = w.len() / 2;
+    record_start::start_weights(w, n, record_rules::forward(n, m));
     record_start::clear(h);
 }
 
@@ -37,9 +39,7 @@ pub fn new(
     ensures { made result weights.new window.new ≡ new_def params weights.old window.old }
 {
     record_verdict::new_verdict(params, weights.len(), window.len())?;
-    let n = weights.len() / 2;
-    let f = record_rules::forward(n, params.feedback_taps);
-    start_over(weights, window, n, f);
+    start_over(weights, window, params.feedback_taps);
     Ok(fresh_state(params))
 }
 
@@ -51,10 +51,19 @@ pub fn reset(state: EqualizeState, weights: &mut [f32], window: &mut [f32]) -> E
     if let Err(e) = record_verdict::reset_verdict(state, weights, window) {
         return Equalized::refused(state, e);
     }
-    let n = weights.len() / 2;
-    let f = record_rules::forward(n, state.params.feedback_taps);
-    start_over(weights, window, n, f);
+    start_over(weights, window, state.params.feedback_taps);
     Equalized::served(EqualizeState::fresh(state.params, state.kp, state.ki))
+}
+
+// The record with the settings `params`, in which one step size is mu; or the refusal, where mu is out of range.
+fn set_mu(state: EqualizeState, mu: f32, refusal: Error, params: EqParams) -> Equalized
+    ensures { settled result ≡ cond (mu_fits mu) (set_answer (Ok tt) (with_params state params)) (set_answer (Err refusal) state) }
+{
+    if record_rules::check_mu(mu) {
+        Equalized::served(EqualizeState { params, ..state })
+    } else {
+        Equalized::refused(state, refusal)
+    }
 }
 
 // Another step size for Cma, 0.00001 to 1; else refusal 5.
@@ -62,29 +71,23 @@ pub fn reset(state: EqualizeState, weights: &mut [f32], window: &mut [f32]) -> E
 pub fn set_mu_cma(state: EqualizeState, mu: f32) -> Equalized
     ensures { settled result ≡ set_mu_cma_def state mu }
 {
-    if !record_rules::check_mu(mu) {
-        return Equalized::refused(state, Error::MuCma);
-    }
     let params = EqParams {
         mu_cma: mu,
         ..state.params
     };
-    Equalized::served(EqualizeState { params, ..state })
+    set_mu(state, mu, Error::MuCma, params)
 }
 
-// Another step size for Decision; else refusal 6. A setter for each field, as the Rust has: one over the field would be handed it as a function.
+// Another step size for Decision; else refusal 6.
 #[tactic(auto, unfolding(definition::specs::Calls::set_mu_dd_def))]
 pub fn set_mu_dd(state: EqualizeState, mu: f32) -> Equalized
     ensures { settled result ≡ set_mu_dd_def state mu }
 {
-    if !record_rules::check_mu(mu) {
-        return Equalized::refused(state, Error::MuDd);
-    }
     let params = EqParams {
         mu_dd: mu,
         ..state.params
     };
-    Equalized::served(EqualizeState { params, ..state })
+    set_mu(state, mu, Error::MuDd, params)
 }
 
 // The tracker's frequency from outside: flushed, held to its limit, and 0 for a NaN. Never refused.

@@ -3,4 +3,4 @@ use Rattle.equalize_state.proofs.Starts.{reset_done}
 use Rattle.equalize_state.proofs.reset.Goals as goal
 
 pub returns : goal.returns
-returns c = reset_done _ _ _ _ c.reset_verdict.ensures c.in_default.is _ _ _ _ _ c.forward-f.ensures c.fresh.ensures c.start_over.ensures.0 c.start_over.ensures.1 c.served.ensures
+returns c = reset_done _ _ _ _ c.reset_verdict.ensures c.in_default.is _ _ _ _ c.fresh.ensures c.start_over.ensures.0 c.start_over.ensures.1 c.served.ensures
