@@ -54,7 +54,7 @@ fn unknown(raw: EqRecord, weights: &[f32], window: &[f32], input: &[f32], output
     EqReply::unknown(raw, evens)
 }
 
-// A block of samples: the quick path without feedback taps, the joint path with them. Same answer as `eq_reference`.
+// A block of samples: in runs, the quick path without feedback taps and the joint path with them, or sample by sample where it is short. Same answer as `eq_reference`.
 #[tactic(auto, using(crate::proofs::Laws::block_unknown))]
 pub fn eq_equalize(
     raw: EqRecord,

@@ -47,7 +47,7 @@ pub extern "C" fn eq_set_frequency(raw: EqRecord, freq: f32) -> EqReply
     capi::eq_set_frequency(raw, freq)
 }
 
-// A block of samples: the quick path without feedback taps, the joint path with them. Same answer as `eq_reference`.
+// A block of samples: in runs, the quick path without feedback taps and the joint path with them, or sample by sample where it is short. Same answer as `eq_reference`.
 #[unsafe(no_mangle)]
 pub extern "C" fn eq_equalize(
     raw: EqRecord,

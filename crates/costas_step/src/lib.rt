@@ -1,4 +1,4 @@
-// The phase step of the carrier loop, from the bits of the frequency.
+// The phase step of the carrier loop, from the bits of the frequency: the specification names shifts and masks for it, in place of a product in f64.
 #![tactic(auto)]
 
 ghost use Rattle.std.specs.Prelude.{◌≡◌, ◌*◌, ◌%◌, ◌^◌, ◌<◌, ◌≤◌, cond};

@@ -57,10 +57,10 @@ fn by_runs(taps: usize, feedback: usize, len: usize) -> bool {
     }
 }
 
-// What each path asks and promises of a block stands in its contract again: record and slices come one by one, as the specification has it, and no struct
-// holds them.
+// What a path asks and promises of a block stands in its own contract and again in `equalize_paths`, which only picks one: a struct of record and slices would
+// be built here and taken apart there, since the public paths keep their parameters.
 
-// The samples of an accepted call: the linear path without feedback taps, the joint path with them, both in runs of 64, or the plain path.
+// The samples of an accepted call: the quick path without feedback taps, the joint path with them, both in runs of 64, or, for a short block, the plain path.
 fn equalize_paths(
     state: EqualizeState,
     weights: &mut [f32],

@@ -1,4 +1,4 @@
-// One sample after its filter sum: tracker, decision, error, update. Where ways meet, the changed numbers are handed back and not the record.
+// One sample after its filter sum: tracker, decision, error, update.
 #![tactic(auto)]
 
 ghost use Rattle.std.specs.Prelude.{◌≡◌, ◌+◌, ◌%◌, ◌^◌, if◌then◌else◌};
@@ -16,7 +16,8 @@ const MSE_ALPHA: f32 = 0.01;
 // The limit of each part of the error in Cma.
 const CMA_CLIP: f32 = 1.0;
 
-// The running numbers that a heard sample changes.
+// The running numbers that a heard sample changes. Apart from the record: steps 4 to 7 hand these three back, and so cannot change settings, gains, mode or
+// count.
 #[derive(Clone, Copy)]
 pub struct Track {
     pub mse: f32,
