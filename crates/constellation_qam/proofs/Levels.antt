@@ -10,10 +10,12 @@ use lib.Count.{count_trailing_zeros}
 use lib.Dec.{T, eqb, eqb→eq}
 use lib.ListN.{length, get_or}
 use Rattle.std.proofs.lemmas.List.{get_or_default}
-use mir.Val.{bool_byte as from_bool}
 use lib.Ieee.{Float, nan, inf, fin, binary32, of_int, odd, round, units, size, span, climb, up, down, lt, le, eq}
 use lib.Ieee.Fits.{down_pos, and_r}
 use Rattle.laws.specs.Order.{le_yes, le_no}
+use Rattle.std.specs.Prelude.{count_by}
+use Rattle.std.specs.List.{range_with_len}
+use Rattle.std.proofs.lemmas.List.Sums.{sum_by-cons}
 use Rattle.definition.specs.Points.{held_to}
 
 -- ---- a comparison with the whole number n * 2 ^ j, as a fact on the floor
@@ -40,7 +42,7 @@ under top n j (fin true m e) g h = g
 under top n j (fin false m e) g h =
     lt_of_le_of_lt (min-le_right top (m * up e / down e)) ((div-lt_iff_lt-mul (down_pos e)).1 (subst (λ (x : ℕ). x < n * 2 ^ j * down e) (mul-one (m * up e)) (le_no _ _ h)))
 
-pub held_le : (top : ℕ) (t : Float) → held_to top t ≤ top
+held_le : (top : ℕ) (t : Float) → held_to top t ≤ top
 unfolding held_to
 held_le top nan = omega arith
 held_le top (inf true) = omega arith
@@ -107,23 +109,39 @@ less k (fin false m e) = small k (m * up e / down e)
     small : (k q : ℕ) → min (k - 1) q ≡ min (k - 1) (min k q)
     small k q = omega arith
 
-pub at_none : (m : ℕ) (t : Float) → m ≡ 0 → 0 ≡ held_to m t
-at_none m t e = rw e (sym (none t))
-
-pub one_le : (c : Bool) → from_bool c ≤ 1
-one_le true = omega arith
-one_le false = omega arith
-
 -- one place more
-pub next : (k m n b : ℕ) (t : Float) → 1 ≤ k → k < 8 → m ≡ k → n ≡ held_to (k - 1) t → b ≡ from_bool (reached k t) → n + b ≡ held_to m t
-next k m n b t l h s e d = go (reached k t) refl
+next : (k n : ℕ) (t : Float) → 1 ≤ k → k < 8 → n ≡ held_to (k - 1) t → n + cond (reached k t) 1 0 ≡ held_to k t
+next k n t l h e = go (reached k t) refl
   where
-    went : (q : ℕ) → q ≡ k → n ≡ min (k - 1) q → b ≡ 1 → n + b ≡ q
-    went q u v w = omega arith
+    went : (q : ℕ) → q ≡ k → n ≡ min (k - 1) q → n + 1 ≡ q
+    went q u v = omega arith
 
-    go : (c : Bool) → reached k t ≡ c → n + b ≡ held_to m t
-    go true p = went (held_to m t) (rw s (up_to k t l h p)) (e ∙ less k t ∙ rw s refl) (d ∙ ap from_bool p)
-    go false p = rw (d, p, s, same k t l h p) (rw e (add-zero (held_to (k - 1) t)))
+    go : (c : Bool) → reached k t ≡ c → n + cond c 1 0 ≡ held_to k t
+    go true p = went (held_to k t) (up_to k t l h p) (e ∙ less k t)
+    go false p = rw (same k t l h p, e) (add-zero (held_to (k - 1) t))
+
+-- how many of n numbers from a on meet p, of one fewer
+more : (p : ℕ → Bool) (n a j : ℕ) → a + n ≡ j → count_by p (range_with_len a (suc n)) ≡ count_by p (range_with_len a n) + cond (p j) 1 0
+more p zero a j e = ap (λ (i : ℕ). 0 + cond (p i) 1 0) (sym (add-zero a) ∙ e)
+more p (suc n) a j e =
+    add (cond (p a) 1 0) (count_by p (range_with_len (a + 1) (suc n))) (count_by p (range_with_len (a + 1) n)) (cond (p j) 1 0) _ _
+    (sum_by-cons (λ i. cond (p i) 1 0) a (range_with_len (a + 1) (suc n)))
+    (sum_by-cons (λ i. cond (p i) 1 0) a (range_with_len (a + 1) n))
+    (more p n (a + 1) j (omega (arith, e)))
+  where
+    add : (x y z w u v : ℕ) → u ≡ x + y → v ≡ x + z → y ≡ z + w → u ≡ v + w
+    add x y z w u v a b h = omega (arith, a, b, h)
+
+before : (n : ℕ) → n ≡ suc n - 1
+before n = omega arith
+
+-- as many of the places 1 .. n are reached
+counted : (n : ℕ) (t : Float) → n < 8 → count_by (λ k. reached k t) (range_with_len 1 n) ≡ held_to n t
+counted zero t l = sym (none t)
+counted (suc n) t l = more (λ k. reached k t) n 1 (suc n) (omega arith) ∙ next (suc n) _ t (omega arith) l (counted n t (omega arith) ∙ ap (λ (i : ℕ). held_to i t) (before n))
+
+pub counted_is : (m n : ℕ) (t : Float) → 0 < m → m ≤ 8 → n ≡ count_by (λ k. le (of_int binary32 (pos k)) t) (range_with_len 1 (m - 1)) → n ≡ held_to (m - 1) t
+counted_is m n t p l e = e ∙ counted (m - 1) t (omega arith)
 
 -- ---- what stands at the floor: one place more, one number more
 

@@ -1,8 +1,10 @@
 // The square constellations: levels, the nearest level of a part, the nearest point.
 #![tactic(auto)]
 
-ghost use Rattle.std.specs.Prelude.{◌≡◌, ◌-◌, ◌<◌, ◌≤◌, cond, slice_index_or};
-ghost use Rattle.std.specs.Float.{nan};
+ghost use Rattle.std.specs.Prelude.{◌≡◌, ◌-◌, ◌<◌, ◌≤◌, cond, pos, count_by, slice_index_or};
+ghost use Rattle.std.specs.List.{range_with_len};
+ghost use Rattle.std.specs.Float.{nan, binary32};
+ghost use Rattle.std.specs.Float.Ieee.{le, of_int};
 ghost use Rattle.definition.specs.Floats.{◌+f◌, ◌*f◌, complex};
 ghost use Rattle.definition.specs.Points.{held_to, level_of, qam_point};
 
@@ -61,17 +63,21 @@ impl<const M: usize> Grid<M> {
         v * self.scale + self.half
     }
 
+    // How many of the places 1 .. M - 1 lie at t or below.
+    fn reached(&self, t: f32) -> usize
+        ensures below { result < M }
+        ensures count { result ≡ count_by (λ k. le (of_int binary32 (pos k)) t) (range_with_len 1 (M - 1)) }
+    {
+        (1..M).filter(|k| t >= *k as f32).count()
+    }
+
     // The index of the level nearest to a part v: how many of the places 1 .. M - 1 its own reaches. That is its floor, held to 0 .. M - 1. A NaN gives 0.
+    #[tactic(auto, using(crate::proofs::Levels::counted_is))]
     fn index(&self, v: f32) -> usize
         ensures value { result ≡ held_to (M - 1) (v *f self.now.scale +f self.now.half) }
         ensures below { result < M }
     {
-        let t = self.place(v);
-        let mut n = 0;
-        for k in 1..M {
-            n += usize::from(t >= k as f32);
-        }
-        n
+        self.reached(self.place(v))
     }
 
     // The level nearest to a part v, by comparisons that select it. Not `self.levels[self.index(v)]`: a sample of 16-QAM took 96 ns so, and 92 by this loop.
