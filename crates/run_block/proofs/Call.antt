@@ -16,7 +16,7 @@ use Rattle.definition.specs.Rules.{rule_r4, TapCounts as Taps}
 use Rattle.definition.specs.Run.{run_def}
 use Rattle.definition_laws.proofs.Accept.{Accepted, accepted_parts, shape}
 use Rattle.lanes.specs.Arrays.{Arrays, arrays}
-use Rattle.lanes.specs.Holds.{Holds, Limits, LaneCounts}
+use Rattle.lanes.specs.Holds.{Limits, LaneCounts}
 use Rattle.lanes.specs.Between.{Between}
 use Rattle.lanes.specs.Powers.{square_at}
 use Rattle.lanes_load.specs.Load.{Loaded, Joined}
@@ -27,21 +27,21 @@ use Rattle.run_samples.specs.Sample.{Formed, Setting}
 use Rattle.run_block.specs.Block.{AllRuns, Empty, Loads, Stores, Asked}
 
 -- ---- `load_linear`
-module _ (n m : ℕ) (w h : List Float) (a₀ : Arrays) (e : Empty a₀) (wr₁ wi₁ wr wi xr₁ xi₁ xr xi sq : List Float)
-    (l1 : Loaded w 0 0 n a₀.wr a₀.wi wr₁ wi₁) (l2 : Loaded w (72 + n % 8) n m wr₁ wi₁ wr wi) (l3 : Loaded h 64 0 n a₀.xr a₀.xi xr₁ xi₁) (l4 : Loaded h 216 n m xr₁ xi₁ xr xi)
+module _ (n m f : ℕ) (k : f ≡ n % 8) (w h : List Float) (a₀ : Arrays) (e : Empty a₀) (wr₁ wi₁ wr wi xr₁ xi₁ xr xi sq : List Float)
+    (l1 : Loaded w 0 0 n a₀.wr a₀.wi wr₁ wi₁) (l2 : Loaded w (72 + f) n m wr₁ wi₁ wr wi) (l3 : Loaded h 64 0 n a₀.xr a₀.xi xr₁ xi₁) (l4 : Loaded h 216 n m xr₁ xi₁ xr xi)
     (l5 : Between (square_at xr xi) 216 (216 + m) a₀.q sq) where
   pub loads : Loads n m w h (arrays wr wi xr xi sq)
   loads = record {
-    loaded = λ s ok f b.
-        load_holds n m wr₁ wi₁ wr wi xr₁ xi₁ xr xi sq (equalizer s w h) (accepted_parts (equalizer s w h) (subst T (sym ok) tt)) f b
-        (rw (e.wr, e.wi) at l1) l2 (rw (e.xr, e.xi) at l3) l4 (rw e.q at l5);
+    loaded = λ s ok t b.
+        load_holds n m wr₁ wi₁ wr wi xr₁ xi₁ xr xi sq (equalizer s w h) (accepted_parts (equalizer s w h) (subst T (sym ok) tt)) t b
+        (rw (e.wr, e.wi) at l1) (rw k at l2) (rw (e.xr, e.xi) at l3) l4 (rw e.q at l5);
   }
 
 -- ---- `store_linear`
-pub stores : (n m : ℕ) (wr wi xr xi w₀ w₁ w h₀ h₁ h : List Float) → Joined wr wi 0 0 n w₀ w₁ → Joined wr wi (72 + n % 8) n m w₁ w → Joined xr xi 64 0 n h₀ h₁ → Joined xr xi 216 n m h₁ h
+pub stores : (n m f : ℕ) (wr wi xr xi w₀ w₁ w h₀ h₁ h : List Float) → f ≡ n % 8 → Joined wr wi 0 0 n w₀ w₁ → Joined wr wi (72 + f) n m w₁ w → Joined xr xi 64 0 n h₀ h₁ → Joined xr xi 216 n m h₁ h
     → Stores n m wr wi xr xi w₀ h₀ w h
-stores n m wr wi xr xi w₀ w₁ w h₀ h₁ h a b c d = record {
-  stored = λ sq q o l k. (weights_back n m 64 (arrays wr wi xr xi sq) q w₀ w₁ w o l a b, window_back n m 64 (arrays wr wi xr xi sq) q h₀ h₁ h o k c d);
+stores n m f wr wi xr xi w₀ w₁ w h₀ h₁ h e a b c d = record {
+  stored = λ sq q o l k. (weights_back n m 64 (arrays wr wi xr xi sq) q w₀ w₁ w o l a (rw e at b), window_back n m 64 (arrays wr wi xr xi sq) q h₀ h₁ h o k c d);
 }
 
 -- ---- the call
@@ -55,15 +55,15 @@ module _ (s : EqualizeState) (w h xs ys : List Float) (ms : List ℕ) (n m : ℕ
   pub asked-shape : (3 ≤ n) × ((n ≤ 63) × (m ≤ 63))
   asked-shape = let t = taps in rw (q.forth, q.back) (t.some, (t.most, t.back))
 
-  pub asked-long : (length w ≡ 2 * (n + m)) × (length h ≡ 2 * (n + m))
-  asked-long = let t = taps in rw (q.forth, q.back, t.sum) (t.weights, t.window)
+  pub asked-long : (g : Shape) → Formed n m g → (length w ≡ 2 * (n + g.m)) × (length h ≡ 2 * (n + g.m))
+  asked-long g f = let t = taps in rw (f.back_is, q.forth, q.back, t.sum) (t.weights, t.window)
 
   pub asked-r4 : rule_r4 s ≡ true
   asked-r4 = is_true (rule_r4 s) accepted.r4
 
 pub call_is : (s : EqualizeState) (w h xs ys₀ : List Float) (ms₀ : List ℕ) (n m : ℕ) (g : Shape) (limit : List Float) (a : Arrays) (wr wi xr xi sq ys : List Float) (ms : List ℕ) (r : EqualizeState) (w' h' : List Float)
-    → Asked s w h xs ys₀ ms₀ n m → Formed n m g → Limits limit 0 0 n × Limits limit 72 (n % 8) m → Loads n m w h a → AllRuns s g n limit a xs (arrays wr wi xr xi sq) ys ms r
-    → Stores n m wr wi xr xi w h w' h' → Ran (run_def (equalizer s w h) (samples_of xs)) (equalizer r w' h') ys ms
+    → Asked s w h xs ys₀ ms₀ n m → Formed n m g → Limits limit 0 0 n × Limits limit 72 g.front g.m → Loads n g.m w h a → AllRuns s g n limit a xs (arrays wr wi xr xi sq) ys ms r
+    → Stores n g.m wr wi xr xi w h w' h' → Ran (run_def (equalizer s w h) (samples_of xs)) (equalizer r w' h') ys ms
 call_is s w h xs ys₀ ms₀ n m g limit a wr wi xr xi sq ys ms r w' h' q f l o c t =
     let e = f.back_is in
     let set : Setting g n limit = record {
@@ -71,14 +71,13 @@ call_is s w h xs ys₀ ms₀ n m g limit a wr wi xr xi sq ys ms r w' h' q f l o 
       front_is = f.front_is;
       middle = f.middle;
       limits = l.0;
-      limits' = subst (λ (k : ℕ). Limits limit 72 (n % 8) k) (sym e) l.1;
+      limits' = subst (λ (k : ℕ). Limits limit 72 k g.m) f.front_is l.1;
     } in
     let ok = q.shaped.accepted in
-    let hold = subst (λ (k : ℕ). Holds n k 64 a (equalizer s w h)) (sym e) (o.loaded s ok (sym q.forth) (sym q.back)) in
+    let hold = o.loaded s ok (sym q.forth) (sym q.back ∙ sym e) in
     let z = c.after w h ok set hold in
-    let after = subst (λ (k : ℕ). Holds n k 64 (arrays wr wi xr xi sq) (equalizer r z.weights z.window)) e z.holds in
-    let long = asked-long s w h xs ys₀ ms₀ n m q in
-    let back = t.stored sq (equalizer r z.weights z.window) after (long.0 ∙ sym after.weights.taps) (long.1 ∙ sym after.past.taps) in
+    let long = asked-long s w h xs ys₀ ms₀ n m q g f in
+    let back = t.stored sq (equalizer r z.weights z.window) z.holds (long.0 ∙ sym z.holds.weights.taps) (long.1 ∙ sym z.holds.past.taps) in
     record { left = rw (back.0, back.1) z.ran.left; out = z.ran.out; marks = z.ran.marks }
 
 -- ---- `equalize_linear`

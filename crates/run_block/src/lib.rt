@@ -1,7 +1,7 @@
 // The quick path and the joint path as one code: a block of samples in runs, the caller's slices into the arrays, run after run, and back.
 #![tactic(auto)]
 
-ghost use Rattle.std.specs.Prelude.{◌≡◌, true, ◌+◌, ◌*◌, ◌≤◌, length};
+ghost use Rattle.std.specs.Prelude.{◌≡◌, true, ◌+◌, ◌*◌, ◌%◌, ◌≤◌, length};
 ghost use Rattle.definition.specs.Slices.{samples_of};
 ghost use Rattle.definition.specs.Packed.{equalizer, Ran};
 ghost use Rattle.definition.specs.Rules.{rule_r4};
@@ -58,14 +58,16 @@ fn shape_of(n: usize, m: usize) -> Shape
 }
 
 // The caller's slices into empty arrays.
-fn load_linear(weights: &[f32], window: &[f32], n: usize, m: usize, w: &mut Weights, h: &mut Window)
-    requires weights_len { (length weights.now ≡ 2 * (n + m)) × (length window.now ≡ 2 * (n + m)) }
-    requires n_bound { (n ≤ 63) × (m ≤ 63) }
+fn load_linear(call: &Call, weights: &[f32], window: &[f32], w: &mut Weights, h: &mut Window)
+    requires weights_len { let m = call.now.shape.m in (length weights.now ≡ 2 * (call.now.n + m)) × (length window.now ≡ 2 * (call.now.n + m)) }
+    requires front { call.now.shape.front ≡ call.now.n % 8 }
     requires empty { Empty (arrays_of w.old h.old) }
-    ensures { Loads n m weights.now window.now (arrays_of w.new h.new) }
+    ensures { Loads call.now.n call.now.shape.m weights.now window.now (arrays_of w.new h.new) }
 {
+    let n = call.n;
+    let Shape { front, m, .. } = call.shape;
     lanes_load::split(&mut w.re, &mut w.im, 0, weights, 0, n);
-    lanes_load::split(&mut w.re, &mut w.im, Weights::BACK + n % 8, weights, n, m);
+    lanes_load::split(&mut w.re, &mut w.im, Weights::BACK + front, weights, n, m);
     lanes_load::split(&mut h.re, &mut h.im, RUN, window, 0, n);
     let back = RUN + Window::BACK;
     lanes_load::split(&mut h.re, &mut h.im, back, window, n, m);
@@ -74,20 +76,15 @@ fn load_linear(weights: &[f32], window: &[f32], n: usize, m: usize, w: &mut Weig
 
 // And back.
 #[tactic(auto, using(crate::proofs::Call::stores))]
-fn store_linear(
-    weights: &mut [f32],
-    window: &mut [f32],
-    n: usize,
-    m: usize,
-    w: &Weights,
-    h: &Window,
-)
-    requires weights_len { (length weights.old ≡ 2 * (n + m)) × (length window.old ≡ 2 * (n + m)) }
-    requires n_bound { (n ≤ 63) × (m ≤ 63) }
-    ensures { Stores n m w.now.re w.now.im h.now.re h.now.im weights.old window.old weights.new window.new }
+fn store_linear(call: &Call, weights: &mut [f32], window: &mut [f32], w: &Weights, h: &Window)
+    requires weights_len { let m = call.now.shape.m in (length weights.old ≡ 2 * (call.now.n + m)) × (length window.old ≡ 2 * (call.now.n + m)) }
+    requires front { call.now.shape.front ≡ call.now.n % 8 }
+    ensures { Stores call.now.n call.now.shape.m w.now.re w.now.im h.now.re h.now.im weights.old window.old weights.new window.new }
 {
+    let n = call.n;
+    let Shape { front, m, .. } = call.shape;
     lanes_load::joined(weights, &w.re, &w.im, 0, 0, n);
-    lanes_load::joined(weights, &w.re, &w.im, Weights::BACK + n % 8, n, m);
+    lanes_load::joined(weights, &w.re, &w.im, Weights::BACK + front, n, m);
     lanes_load::joined(window, &h.re, &h.im, RUN, 0, n);
     lanes_load::joined(window, &h.re, &h.im, RUN + Window::BACK, n, m);
 }
@@ -107,15 +104,16 @@ pub fn linear_state(
     ensures { Ran (run_def (equalizer state weights.old window.old) (samples_of input.now))
         (equalizer result weights.new window.new) output.new marks.new }
 {
+    let shape = shape_of(n, m);
     let call = Call {
         n,
-        shape: shape_of(n, m),
-        limit: lanes_load::limits(n, n % 8, m),
+        shape,
+        limit: lanes_load::limits(n, shape.front, shape.m),
     };
     let mut w = Weights::ZERO;
     let mut h = Window::ZERO;
-    load_linear(weights, window, n, m, &mut w, &mut h);
+    load_linear(&call, weights, window, &mut w, &mut h);
     let s = linear_runs(state, &call, &mut w, &mut h, input, output, marks);
-    store_linear(weights, window, n, m, &w, &h);
+    store_linear(&call, weights, window, &w, &h);
     s
 }

@@ -13,26 +13,27 @@ use run_samples::Call;
 use types::EqualizeState;
 
 // The samples of a run into the window, and what depends on them alone.
-fn prepare_run(s: EqualizeState, h: &mut Window, ahead: &mut Ahead, input: &[f32], n: usize)
-    requires { (length input.now ≤ 128) × (n ≤ 63) }
-    ensures { Prepared s n input.now h.old.re h.old.im h.old.squares h.new.re h.new.im h.new.squares ahead.new.power ahead.new.steps }
+fn prepare_run(s: EqualizeState, call: &Call, h: &mut Window, ahead: &mut Ahead, input: &[f32])
+    requires { length input.now ≤ 128 }
+    ensures { Prepared s call.now.n input.now h.old.re h.old.im h.old.squares h.new.re h.new.im h.new.squares ahead.new.power ahead.new.steps }
 {
     let first = RUN - input.len() / 2;
     let from = first / 16 * 16;
     lanes_prepare::enter(h, input);
-    lanes_prepare::squares(h, from, RUN + n);
-    lanes_prepare::powers(&mut ahead.power, &h.squares, from, n);
+    lanes_prepare::squares(h, from, RUN + call.n);
+    lanes_prepare::powers(&mut ahead.power, &h.squares, from, call.n);
     lanes_prepare::sizes(ahead, s, from);
 }
 
 // The windows of the last sample to where the next run looks for them.
-fn finish_run(h: &mut Window, len: usize, n: usize, m: usize)
-    requires { (len ≤ 64) × ((n ≤ 63) × (m ≤ 63)) }
-    ensures { Finished n m (64 - len) h.old.re h.old.im h.old.squares h.new.re h.new.im h.new.squares }
+fn finish_run(call: &Call, h: &mut Window, len: usize)
+    requires { len ≤ 64 }
+    ensures { Finished call.now.n call.now.shape.m (64 - len) h.old.re h.old.im h.old.squares h.new.re h.new.im h.new.squares }
 {
     let first = RUN - len;
-    lanes_load::moved(&mut h.re, first, RUN, n);
-    lanes_load::moved(&mut h.im, first, RUN, n);
+    lanes_load::moved(&mut h.re, first, RUN, call.n);
+    lanes_load::moved(&mut h.im, first, RUN, call.n);
+    let m = call.shape.m;
     let back = first + Window::BACK;
     let home = RUN + Window::BACK;
     lanes_load::moved(&mut h.re, back, home, m);
@@ -61,7 +62,7 @@ pub fn run(
 {
     let a = 2 * i;
     let b = 2 * e;
-    prepare_run(state, h, ahead, &input[a..b], call.n);
+    prepare_run(state, call, h, ahead, &input[a..b]);
     let r = run_samples::run(
         state,
         call,
@@ -72,6 +73,6 @@ pub fn run(
         &mut output[a..b],
         &mut marks[i..e],
     );
-    finish_run(h, e - i, call.n, call.shape.m);
+    finish_run(call, h, e - i);
     r
 }
