@@ -68,7 +68,7 @@ fn beside(at: usize, front: usize, lanes: usize, more: usize) -> Halves
 }
 
 impl Shape {
-    // The halves of the sum for the sample at `at`.
+    // The halves of the sum for the sample at `at`. No type for a place below 64: it is a number that runs as 63 - k, and would be wrapped at each of four calls.
     pub fn sums(self, at: usize) -> Halves
         requires { at ≤ 63 }
         ensures forth { (result.forth.at ≡ at) × (result.forth.lanes ≡ self.lanes) }
@@ -87,8 +87,8 @@ impl Shape {
     }
 }
 
-// The weights: half of the lanes for the forward taps, then half for the feedback taps. Here and in the window parts stand apart: the sums and the steps run over eight
-// lanes of one part at a time.
+// The weights: half of the lanes for the forward taps, then half for the feedback taps. Here and in the window parts stand apart, as the specification has them: real and
+// imaginary lanes apart. Two structs and no one of both by its length: the window has its squares besides, and a sum takes one of each.
 #[derive(Clone, Copy)]
 pub struct Weights {
     pub re: [f32; LANES],

@@ -8,7 +8,7 @@ ghost use Rattle.lanes.specs.Holds.{Limits};
 use lanes::{LANES, PLACES, Weights};
 use types::C32;
 
-// count complex values of x, from `from` on, into the lanes from `at` on. By an index, as in `joined`: behind a `zip` of `iter_mut` a proof knows no element.
+// count complex values of x, from `from` on, into the lanes from `at` on. By an index: behind a `zip` of `iter_mut` a proof knows no element.
 pub fn split(re: &mut [f32], im: &mut [f32], at: usize, x: &[f32], from: usize, count: usize)
     requires count_in_bounds { (at + count ≤ length re.old) × (at + count ≤ length im.old) }
     requires count_in_bounds_2 { 2 * (from + count) ≤ length x.now }
@@ -21,7 +21,7 @@ pub fn split(re: &mut [f32], im: &mut [f32], at: usize, x: &[f32], from: usize, 
     }
 }
 
-// And back.
+// And back. By an index: one number is a place in three slices, of which x is written, and a `zip` of re and im would still count the places of x.
 pub fn joined(x: &mut [f32], re: &[f32], im: &[f32], at: usize, from: usize, count: usize)
     requires count_in_bounds { (at + count ≤ length re.now) × (at + count ≤ length im.now) }
     requires count_in_bounds_2 { 2 * (from + count) ≤ length x.old }
