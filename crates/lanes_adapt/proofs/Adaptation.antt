@@ -6,7 +6,7 @@ use mathlib.Core.List.{List}
 use native.Mathlib.Omega.{arith}
 use native.Mathlib.Nat.{le_of_eq}
 use native.Mathlib.Decide.{ℕ_discrete, dec_lt}
-use lib.ListN.{length, get_or, set, length-set}
+use lib.ListN.{length, get_or, set, length-set, replicate, length-replicate, get_or-replicate}
 use lib.Seq.{get_or-set_same, get_or-set_other}
 use lib.Dec.{T}
 use lib.Ieee.{Float, nan}
@@ -20,7 +20,7 @@ use Rattle.definition.specs.Slices.{re_at, im_at, new_re, new_im, updated, every
 use Rattle.definition.specs.Sample.{adapted, reset_unless}
 use Rattle.definition_laws.proofs.Parts.{is_false}
 use Rattle.definition_laws.proofs.Every.{length_updated, length_start, every-at}
-use Rattle.lanes_adapt.specs.Steps.{uneven, step_re, step_im, any_of, broken_in, clear_in, Replaced, Within}
+use Rattle.lanes_adapt.specs.Steps.{uneven, step_re, step_im, any_of, broken_in, clear_of, clear_in, Replaced, Within}
 use Rattle.lanes.specs.Holds.{Lies, Half, Weights}
 use Rattle.lanes_adapt.specs.Settled.{start_in, ruined, Settled}
 use Rattle.lanes.specs.Adapts.{Ready, Adapts}
@@ -213,11 +213,37 @@ module _ (wr wi limit xr xi : List Float) (at lanes bt more centre : ℕ) (gr gi
     holds = λ n m w h r. rw e (settled-go n m w h r wr'' wi'' s (ruined wr' wi' limit) refl);
   }
 
--- ---- the exit of `settle`
-pub settled : (wr wi limit : List Float) (centre : ℕ) (all : Bool) (mid wr' wi' : List Float) → all ≡ ruined wr wi limit
-    → Replaced (clear_in wr limit all 0) 0 144 wr mid → Replaced (clear_in wi limit all 0) 0 144 wi wi'
-    → wr' ≡ start_in all centre mid → Settled wr wi limit centre wr' wi'
-settled wr wi limit centre all mid wr' wi' e r i g =
-    let u = rw e at (within_cleared wr limit all r) in
-    let v = rw e at (within_cleared wi limit all i) in
-    record { mid = mid; re = u.0; back_re = u.1; started = rw e at g; im = v.0; back_im = v.1 }
+-- ---- the exits of `settle`
+zeros : (f : ℕ → Float) (o : ℕ) (old : List Float) → length old ≡ 144 → o ≤ 72 → ((k : ℕ) → f k ≡ zero32) → Within f o 72 old (replicate 144 zero32)
+zeros f o old e b z = record {
+  long = length-replicate 144 zero32 ∙ sym e;
+  done = λ k h. get_or-replicate 144 (o + k) zero32 nan (omega arith) ∙ sym (z k);
+  kept = λ k h g. absurd (omega arith);
+}
+
+all_clear : (w limit : List Float) (all : Bool) (o k : ℕ) → all ≡ true → clear_in w limit all o k ≡ zero32
+unfolding clear_of
+all_clear w limit all o k e = rw e refl
+
+pub settled_start : (wr wi limit : List Float) (centre : ℕ) (b : Bool) (wr' wi' : List Float) → length wr ≡ 144 → length wi ≡ 144 → b ≡ ruined wr wi limit → b ≡ true
+    → wr' ≡ set (replicate 144 zero32) centre one32 → wi' ≡ replicate 144 zero32 → Settled wr wi limit centre wr' wi'
+unfolding start_in
+settled_start wr wi limit centre b wr' wi' l m e t p q =
+    let a : ruined wr wi limit ≡ true = sym e ∙ t in
+    record {
+      mid = replicate 144 zero32;
+      re = zeros _ 0 wr l (omega arith) (λ k. all_clear wr limit _ 0 k a);
+      back_re = zeros _ 72 wr l (omega arith) (λ k. all_clear wr limit _ 72 k a);
+      started = p ∙ rw a refl;
+      im = rw q (zeros _ 0 wi m (omega arith) (λ k. all_clear wi limit _ 0 k a));
+      back_im = rw q (zeros _ 72 wi m (omega arith) (λ k. all_clear wi limit _ 72 k a));
+    }
+
+pub settled_kept : (wr wi limit : List Float) (centre : ℕ) (b : Bool) (wr' wi' : List Float) → b ≡ ruined wr wi limit → b ≡ false
+    → Replaced (clear_in wr limit false 0) 0 144 wr wr' → Replaced (clear_in wi limit false 0) 0 144 wi wi' → Settled wr wi limit centre wr' wi'
+unfolding start_in
+settled_kept wr wi limit centre b wr' wi' e t r i =
+    let a : ruined wr wi limit ≡ false = sym e ∙ t in
+    let u = within_cleared wr limit false r in
+    let v = within_cleared wi limit false i in
+    record { mid = wr'; re = rw a u.0; back_re = rw a u.1; started = rw a refl; im = rw a v.0; back_im = rw a v.1 }

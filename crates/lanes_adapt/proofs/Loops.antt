@@ -1,8 +1,10 @@
 -- Loops over the lanes, one law for each step; one half's lanes after the steps of both. Assumes nothing.
 use Prim.Native.Nat.{ℕ, zero, suc, ◌+◌, ◌<◌, ◌≤◌}
-use mathlib.Core.Path.{◌≡◌, refl, sym, ◌∙◌}
+use mathlib.Core.Path.{◌≡◌, refl, sym, ◌∙◌, ap}
 use mathlib.Core.Bool.{Bool, true, false, ◌||◌}
-use mathlib.Core.List.{List}
+use mathlib.Core.List.{List, [], ◌∷◌}
+use mathlib.Core.Path.{fun_ext}
+use Rattle.std.specs.List.{list_any, enumerate_from}
 use native.Mathlib.Omega.{arith}
 use native.Mathlib.Numerals.{add-one}
 use native.Mathlib.Nat.{zero-add, add-zero, add-suc}
@@ -75,7 +77,24 @@ unfolding any_of
 any_split p n zero = rw add-zero (sym (or_false (any_of n p)))
 any_split p n (suc m) = rw (add-suc, any_split p n m) (or_assoc (any_of n p) (any_of m (λ i. p (n + i))) (p (n + m)))
 
+-- the elements of a list with their places, tested one after another
+any_listed : (p : ℕ → Float → Bool) (n : ℕ) (xs : List Float) (m : ℕ) → m ≡ length xs → list_any (λ (x : ℕ × Float). p x.0 x.1) (enumerate_from n xs) ≡ any_of m (λ k. p (n + k) (get_or xs k nan))
+unfolding any_of
+any_listed p n [] m e = rw e refl
+any_listed p n (x ∷ xs) m e =
+    let f : (λ (k : ℕ). p (n + (1 + k)) (get_or (x ∷ xs) (1 + k) nan)) ≡ (λ (k : ℕ). p (n + 1 + k) (get_or xs k nan)) = fun_ext (λ (k : ℕ).
+    let q : n + (1 + k) ≡ n + 1 + k = omega arith in
+    let r : 1 + k ≡ suc k = omega arith in
+    rw (q, r) refl) in
+    let z : m ≡ 1 + length xs = omega (arith, e) in
+    let y : n + 0 ≡ n = omega arith in
+    ap (λ (b : Bool). p n x || b) (any_listed p (n + 1) xs (length xs) refl)
+    ∙ sym (ap (λ (t : ℕ). any_of t (λ k. p (n + k) (get_or (x ∷ xs) k nan))) z ∙ any_split (λ k. p (n + k) (get_or (x ∷ xs) k nan)) 1 (length xs) ∙ ap (λ (t : ℕ). p t x || any_of (length xs) (λ k. p (n + (1 + k)) (get_or (x ∷ xs) (1 + k) nan))) y
+    ∙ ap (λ (g : ℕ → Bool). p n x || any_of (length xs) g) f)
+
 -- all lanes at once
-pub broken_all : (wr wi limit : List Float) → any_of 144 (λ k. broken_at (get_or wr k nan) (get_or wi k nan) (get_or limit k nan)) ≡ ruined wr wi limit
+pub broken_all : (wr wi limit : List Float) → length limit ≡ 144
+    → list_any (λ (x : ℕ × Float). broken_at (get_or wr x.0 nan) (get_or wi x.0 nan) x.1) (enumerate_from 0 limit) ≡ ruined wr wi limit
 unfolding ruined broken_in
-broken_all wr wi limit = any_split (λ k. broken_at (get_or wr k nan) (get_or wi k nan) (get_or limit k nan)) 72 72 ∙ simp zero-add
+broken_all wr wi limit e =
+    any_listed (λ k l. broken_at (get_or wr k nan) (get_or wi k nan) l) 0 limit 144 (sym e) ∙ simp zero-add (any_split (λ k. broken_at (get_or wr k nan) (get_or wi k nan) (get_or limit k nan)) 72 72)

@@ -1,7 +1,9 @@
 // The weights' step.
 #![tactic(auto)]
 
-ghost use Rattle.std.specs.Prelude.{◌≡◌, ◌+◌, ◌<◌, ◌≤◌};
+ghost use Rattle.std.specs.Prelude.{◌≡◌, ◌+◌, ◌<◌, ◌≤◌, false};
+ghost use Rattle.std.specs.Float.Ieee.{lt};
+ghost use Rattle.types.specs.Bits.{one32};
 ghost use Rattle.lanes.specs.Adapts.{Adapts};
 ghost use Rattle.lanes_adapt.specs.Settled.{Settled, ruined};
 ghost use Rattle.lanes_adapt.specs.Steps.{any_of, broken_at, clear_in, clear_of, kept_of, lane_im, lane_re, Replaced, step_im, step_re, uneven};
@@ -17,7 +19,7 @@ fn kept(v: f32, limit: f32) -> f32
     if (v < limit) & (v > -limit) { 0.0 } else { v }
 }
 
-// Whether a part of v is not finite.
+// Whether a part of v is not finite. By two differences: by `numeric::finite_c` the quick path took 4 to 8 % more in blocks of 4096 with 11 to 63 taps.
 #[tactic(auto, unfolding(crate::specs::Steps::uneven))]
 fn apart(v: C32) -> bool
     ensures { result ≡ uneven v.re v.im }
@@ -37,8 +39,7 @@ fn stepped(w: C32, limit: f32, x: C32, g: C32) -> C32
     }
 }
 
-// A step of one half's lanes; whether some lane is not finite. By an index: it is a place in three structs, from two places on. No `any` for the flag: it leaves
-// early.
+// A step of one half's lanes; whether some lane is not finite. By an index: it is a place in two structs and an array. No `any` for the flag: it leaves early.
 #[tactic(auto, using(crate::proofs::HalfLoop::half_none))]
 fn update_half(w: &mut Weights, limit: &[f32; LANES], h: &Window, p: Half, g: C32) -> bool
     ensures re { Replaced (step_re w.old.re limit.now h.now.re h.now.im p.at p.from g.re g.im) p.from p.lanes w.old.re w.new.re }
@@ -55,12 +56,26 @@ fn update_half(w: &mut Weights, limit: &[f32; LANES], h: &Window, p: Half, g: C3
     bad
 }
 
+// Whether a lane is a weight's, by its limit: TINY, and infinity for padding.
+fn is_weight(limit: f32) -> bool
+    ensures { result ≡ lt limit one32 }
+{
+    limit < 1.0
+}
+
+// Whether a lane is padding.
+fn is_padding(limit: f32) -> bool
+    ensures { result ≡ lt one32 limit }
+{
+    limit > 1.0
+}
+
 // Whether a lane that is no padding is not finite.
 #[tactic(auto, unfolding(crate::specs::Steps::broken_at))]
 fn broken_at(v: C32, limit: f32) -> bool
     ensures { result ≡ broken_at v.re v.im limit }
 {
-    (limit < 1.0) & apart(v)
+    is_weight(limit) & apart(v)
 }
 
 // Whether one of the weights is not finite: padding does not count.
@@ -68,41 +83,41 @@ fn broken_at(v: C32, limit: f32) -> bool
 fn broken(w: &Weights, limit: &[f32; LANES]) -> bool
     ensures { result ≡ ruined w.now.re w.now.im limit.now }
 {
-    let mut bad = false;
-    for (k, l) in limit.iter().enumerate() {
-        bad |= broken_at(w.at(k), *l);
-    }
-    bad
+    limit
+        .iter()
+        .enumerate()
+        .any(|(k, l)| broken_at(w.at(k), *l))
 }
 
-// +0 for padding, and for each lane where the weights start anew.
+// +0 for padding.
 #[tactic(auto, unfolding(crate::specs::Steps::clear_of))]
-fn clear(v: f32, limit: f32, all: bool) -> f32
-    ensures { result ≡ clear_of v limit all }
+fn clear(v: f32, limit: f32) -> f32
+    ensures { result ≡ clear_of v limit false }
 {
-    if all | (limit > 1.0) { 0.0 } else { v }
+    if is_padding(limit) { 0.0 } else { v }
 }
 
-// Padding back to +0; all lanes where the weights start anew. Their number is a constant here: the compiler unrolls the loop and so aligns the array.
-fn cleared(w: &mut [f32; LANES], limit: &[f32; LANES], all: bool)
-    ensures { Replaced (clear_in w.old limit.now all 0) 0 144 w.old w.new }
+// Padding back to +0.
+fn cleared(w: &mut [f32; LANES], limit: &[f32; LANES])
+    ensures { Replaced (clear_in w.old limit.now false 0) 0 144 w.old w.new }
 {
     for (k, v) in w.iter_mut().enumerate() {
-        *v = clear(*v, limit[k], all);
+        *v = clear(*v, limit[k]);
     }
 }
 
 // After a lane that is not finite: the start weights if it is a weight's.
-#[tactic(auto, using(crate::proofs::Adaptation::settled), unfolding(crate::specs::Settled::start_in))]
+#[tactic(auto, using(crate::proofs::Adaptation::settled_start, crate::proofs::Adaptation::settled_kept))]
 fn settle(w: &mut Weights, limit: &[f32; LANES], centre: usize)
     requires { centre < 144 }
     ensures { Settled w.old.re w.old.im limit.now centre w.new.re w.new.im }
 {
-    let all = broken(w, limit);
-    cleared(&mut w.re, limit, all);
-    cleared(&mut w.im, limit, all);
-    if all {
+    if broken(w, limit) {
+        *w = Weights::ZERO;
         w.re[centre] = 1.0;
+    } else {
+        cleared(&mut w.re, limit);
+        cleared(&mut w.im, limit);
     }
 }
 

@@ -1,10 +1,18 @@
--- `broken` says whether a weight is not finite: each turn of its loop tests one lane.
+-- `broken` says whether a weight is not finite: `any` asks it of each lane. Assumes nothing.
+use mathlib.Core.Path.{◌∙◌}
+use Prim.Native.Nat.{ℕ}
+use Rattle.std.proofs.Common.{rules}
+use Rattle.std.proofs.lemmas.Iterator.{YieldsList-from_slice}
+use Rattle.std.proofs.lemmas.Iterator.Consumers.{YieldsList-at, YieldsList-from_enumerate}
+use Rattle.std.proofs.lemmas.Iterator.Search.{any_from_yields_List}
+use lib.Ieee.{Float, nan}
+use lib.ListN.{get_or}
+use Rattle.lanes_adapt.specs.Steps.{broken_at}
 use Rattle.lanes_adapt.proofs.Loops.{broken_all}
-use mathlib.Core.Path.{◌≡◌, ◌∙◌}
-use native.Mathlib.Omega.{arith}
 use Rattle.lanes_adapt.proofs.broken.Goals as goal
 
 pub returns : goal.returns
 returns c =
-    let e : c.loop-k.k ≡ 144 = omega arith in
-    rw e at c.loop-k.invariant ∙ broken_all _ _ _
+    any_from_yields_List (λ (x : ℕ × Float). broken_at (get_or c.args.w.now.re x.0 nan) (get_or c.args.w.now.im x.0 nan) x.1) _ _ _ c.any.ensures.ran
+    (YieldsList-from_enumerate (YieldsList-at c.enumerate.ensures.source (YieldsList-from_slice c.args.limit.now cc)) c.enumerate.ensures.count) (λ x b q k. search rules)
+    ∙ broken_all _ _ _ c.told-limit
