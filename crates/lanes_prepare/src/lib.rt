@@ -13,8 +13,8 @@ ghost use Rattle.lanes_prepare.specs.Clock.{cma_left, StepSizes};
 use lanes::{PLACES, RUN, Window};
 use types::{EqMode, EqParams, EqualizeState};
 
-// The powers of a run's forward windows and their step sizes, made ahead: the sample at `at` has those at `at`. Apart, since the powers are summed and the
-// sizes divided sixteen and more at a time.
+// The powers of a run's forward windows and their step sizes, made ahead: the sample at `at` has those at `at`. No array of
+// pairs: `powers` lends one array and reads none of the other, and `sizes` reads one and writes the other.
 #[derive(Clone, Copy)]
 pub struct Ahead {
     pub power: [f32; RUN],
@@ -28,8 +28,8 @@ impl Ahead {
     };
 }
 
-// The samples of a run into the window, newest first; a sample that is not finite as zero. By an index: behind a `zip` with `iter_mut().rev()` a proof knows no
-// element.
+// The samples of a run into the window, newest first; a sample that is not finite as zero. By an index: it is a place in two arrays of one struct, from the end
+// down, and a complex number of the input, so that a chain would have three iterators and a `rev` for one `put` and one `at`.
 pub fn enter(h: &mut Window, input: &[f32])
     requires { length input.now ≤ 128 }
     ensures entered { Entered input.now h.old.re h.old.im h.new.re h.new.im }
@@ -62,7 +62,8 @@ fn add<const N: usize>(acc: &mut [f32; N], q: &[f32; PLACES], from: usize)
     }
 }
 
-// The powers of sixteen windows side by side. By an index: turn i adds sixteen squares from j + i on, and these parts overlap.
+// The powers of sixteen windows side by side. By an index: turn i adds sixteen squares from j + i on, and `q[j..].windows(16).take(n)` would hand
+// `add` a slice, whose length and place would stand in contracts in the index's stead.
 fn tile(power: &mut [f32; RUN], q: &[f32; PLACES], j: usize, n: usize)
     requires { (j ≤ 48) × (n ≤ 64) }
     ensures { Between (λ i. chain_of q.now i n) j (j + 16) power.old power.new }
@@ -84,14 +85,14 @@ pub fn powers(power: &mut [f32; RUN], q: &[f32; PLACES], from: usize, n: usize)
     }
 }
 
-// The step sizes by mu for the windows from .. to. By an index: it is a place in two arrays, and behind a `zip` of `iter_mut` a proof knows no element.
+// The step sizes by mu for the windows from .. to.
 #[tactic(auto, using(lanes::proofs::Between::between_more))]
 fn divide(steps: &mut [f32; RUN], power: &[f32; RUN], from: usize, to: usize, mu: f32)
     requires { (from ≤ to) × (to ≤ 64) }
     ensures { Between (λ i. step_size mu (get_or power.now i nan)) from to steps.old steps.new }
 {
-    for j in from..to {
-        steps[j] = steps::step_size(mu, power[j]);
+    for (k, s) in steps[from..to].iter_mut().enumerate() {
+        *s = steps::step_size(mu, power[from + k]);
     }
 }
 

@@ -1,9 +1,10 @@
--- `divide` gives the step sizes of the windows from .. to: each turn of its loop sets one.
+-- `divide` gives the step sizes of the windows from .. to: each turn of its loop sets one of that part.
 use lib.Ieee.{nan}
+use Prim.Native.Nat.{◌+◌}
 use Rattle.definition.specs.Sample.{step_size}
 use Rattle.lanes.specs.Between.{Between}
 use lib.ListN.{get_or}
 use Rattle.lanes_prepare.proofs.divide.Given as goal
 
-abbrev pub invariant-loop-j : goal.invariant-loop-j
-invariant-loop-j l = Between (λ i. step_size l.mu (get_or l.power i nan)) l.from l.j l.initial.steps l.steps
+abbrev pub invariant-loop-k : goal.invariant-loop-k
+invariant-loop-k l = Between (λ i. step_size l.mu (get_or l.power (l.from + i) nan)) 0 l.k l.initial.s-items l.s-items
