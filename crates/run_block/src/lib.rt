@@ -8,7 +8,7 @@ ghost use Rattle.definition.specs.Rules.{rule_r4};
 ghost use Rattle.definition.specs.Run.{run_def};
 ghost use Rattle.lanes.specs.Arrays.{arrays_of};
 ghost use Rattle.run_samples.specs.Sample.{Formed};
-ghost use Rattle.run_samples.specs.Run.{Lengths};
+ghost use Rattle.run_samples.specs.Run.{SameSamples};
 ghost use Rattle.run_block.specs.Block.{AllRuns, Empty, Loads, Stores, Asked};
 
 use lanes::{RUN, Shape, Weights, Window};
@@ -26,7 +26,7 @@ fn linear_runs(
     output: &mut [f32],
     marks: &mut [u8],
 ) -> EqualizeState
-    requires input_len { Lengths input.now output.old marks.old }
+    requires input_len { SameSamples input.now output.old marks.old }
     requires state_value { rule_r4 state ≡ true }
     ensures { AllRuns state call.now.shape call.now.n call.now.limit (arrays_of w.old h.old) input.now (arrays_of w.new h.new) output.new marks.new result }
 {

@@ -4,7 +4,7 @@
 ghost use Rattle.std.specs.Prelude.{◌≡◌, true, ◌+◌, ◌-◌, ◌*◌, ◌≤◌, length};
 ghost use Rattle.definition.specs.Rules.{rule_r4};
 ghost use Rattle.lanes.specs.Arrays.{arrays_of};
-ghost use Rattle.run_samples.specs.Run.{Lengths};
+ghost use Rattle.run_samples.specs.Run.{SameSamples};
 ghost use Rattle.run_one.specs.WholeRun.{Prepared, Finished, WholeRun};
 
 use lanes::{RUN, Weights, Window};
@@ -41,7 +41,7 @@ fn finish_run(call: &Call, h: &mut Window, len: usize)
     lanes_load::moved(&mut h.squares, back, home, m);
 }
 
-// One run: the samples i .. e, at most RUN.
+// One run: the samples i .. e, at most RUN. By i and e, since `&mut output[a..b]` stands here and not at the caller.
 pub fn run(
     state: EqualizeState,
     call: &Call,
@@ -54,7 +54,7 @@ pub fn run(
     i: usize,
     e: usize,
 ) -> EqualizeState
-    requires input_len { Lengths input.now output.old marks.old }
+    requires input_len { SameSamples input.now output.old marks.old }
     requires i_le_e { (i ≤ e) × ((e ≤ i + 64) × (e ≤ length marks.old)) }
     requires state_value { rule_r4 state ≡ true }
     ensures { WholeRun state call.now.shape call.now.n call.now.limit (arrays_of w.old h.old) input.now output.old marks.old i e

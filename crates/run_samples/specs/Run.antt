@@ -14,9 +14,9 @@ use Rattle.lanes_prepare.specs.Clock.{StepSizes}
 use Rattle.lanes.specs.declared.Shape.{Shape}
 use Rattle.run_samples.specs.Sample.{Setting}
 
--- input, output and marks of the same samples
-abbrev pub Lengths : List Float → List Float → List ℕ → Type 0
-Lengths xs ys ms = (length xs ≡ 2 * length ms) × (length ys ≡ 2 * length ms)
+-- input, output and marks of the same samples; the three go one by one, as the call of the specification has them
+abbrev pub SameSamples : List Float → List Float → List ℕ → Type 0
+SameSamples xs ys ms = (length xs ≡ 2 * length ms) × (length ys ≡ 2 * length ms)
 
 -- the powers ps of the windows that lie in the arrays, from the place `from` on
 pub record Powered (n from : ℕ) (xr xi ps : List Float) : Type 0 where

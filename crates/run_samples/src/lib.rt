@@ -1,4 +1,4 @@
-// The samples of a run on the arrays: w the weights, h the window. The feedback's lanes and places are the upper halves.
+// The samples of a run on the arrays: w the weights, h the window, lent apart, since the step writes w and reads h. The feedback's lanes and places are the upper halves.
 #![tactic(auto)]
 
 ghost use Rattle.std.specs.Prelude.{◌≡◌, true, ◌+◌, ◌-◌, ◌*◌, ◌<◌, ◌≤◌, length};
@@ -7,7 +7,7 @@ ghost use Rattle.lanes.specs.Arrays.{arrays_of};
 ghost use Rattle.lanes.specs.Adapts.{Adapts};
 ghost use Rattle.steps.specs.Step.{step_of, heard_of};
 ghost use Rattle.run_samples.specs.Sample.{size_of, Takes, Samples};
-ghost use Rattle.run_samples.specs.Run.{Lengths, Runs};
+ghost use Rattle.run_samples.specs.Run.{SameSamples, Runs};
 
 use lanes::{LANES, RUN, Shape, Weights, Window};
 use lanes_prepare::Ahead;
@@ -99,7 +99,7 @@ pub fn run(
     output: &mut [f32],
     marks: &mut [u8],
 ) -> EqualizeState
-    requires marks_len_bound { (length marks.old ≤ 64) × Lengths input.now output.old marks.old }
+    requires marks_len_bound { (length marks.old ≤ 64) × SameSamples input.now output.old marks.old }
     requires state_value { rule_r4 state ≡ true }
     ensures { Runs state call.now.shape call.now.limit (arrays_of w.old h.old) ahead.now.power ahead.now.steps input.now
         (arrays_of w.new h.new) output.new marks.new result }
