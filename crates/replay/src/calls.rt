@@ -6,10 +6,8 @@ ghost use Rattle.std.specs.Prelude.{◌≡◌, ◌+◌, ◌*◌, ◌≤◌, leng
 
 use crate::records;
 use crate::records::{Left, Record};
-use crate::words::{MOST_TAPS, floats, same_floats};
+use crate::words::{FLOATS, MOST_SAMPLES, MOST_TAPS, floats, same_floats};
 use types::{EqualizeState, Equalized};
-
-const MOST_SAMPLES: u64 = 4096;
 
 // The words of a line. The first call takes k1 of k samples.
 #[derive(Clone, Copy)]
@@ -35,7 +33,8 @@ impl Case<'_> {
         let (record, w) = w.split_first_chunk()?;
         let (sizes, mut w) = w.split_first_chunk()?;
         let [n, k1, k2]: [u64; 3] = *sizes;
-        if n > MOST_TAPS || k1 > MOST_SAMPLES || k2 > MOST_SAMPLES - k1 {
+        let most = MOST_SAMPLES as u64;
+        if n > MOST_TAPS || k1 > most || k2 > most - k1 {
             return None;
         }
         let parts = 2 * (n as usize);
@@ -60,14 +59,16 @@ impl Case<'_> {
     }
 }
 
-// The marks of a word stand in its digits, the first in the highest.
-fn mark_of(word: u64, i: u64) -> u8 {
-    ((word >> (28 - 4 * (i % 8))) % 16) as u8
+// The marks of a word, which stand in its digits, the first in the highest.
+fn marks_of(word: u64) -> [u8; 8] {
+    std::array::from_fn(|i| ((word >> (28 - 4 * i)) % 16) as u8)
 }
 
-// Whether a word holds at most eight marks, and 0 in its other digits.
+// Whether a word holds these marks, at most eight, and 0 in its other digits.
 fn same_word(marks: &[u8], word: u64) -> bool {
-    (0..8u64).all(|i| marks.get(i as usize).copied().unwrap_or(0) == mark_of(word, i))
+    marks_of(word)
+        .strip_prefix(marks)
+        .is_some_and(|rest| rest.iter().all(|digit| *digit == 0))
 }
 
 fn same_marks(marks: &[u8], words: &[u64]) -> bool {
@@ -84,8 +85,8 @@ where
     let mut weights = floats(case.weights);
     let mut window = floats(case.window);
     let input = floats(case.samples);
-    let mut output = [f32::NAN; 8192];
-    let mut marks = [255u8; 4096];
+    let mut output = [f32::NAN; FLOATS];
+    let mut marks = [255u8; MOST_SAMPLES];
     let first = equalize(
         start,
         weights.as_mut_slice(),

@@ -11,6 +11,7 @@ pub(crate) struct Leaf {
     pub(crate) name: &'static str,
     // How many f64 a line begins with.
     pub(crate) doubles: usize,
+    // A function's pointer: no leaf holds anything, so that a closure would say no more.
     pub(crate) agrees: fn(&[u64]) -> Option<bool>,
     ghost callable: { IsAlwaysCallable agrees },
 }
@@ -37,64 +38,53 @@ impl Leaf {
 }
 
 // The most taps of a line of dot_complex.
-const MOST_TAPS: u64 = 126;
+const DOT_TAPS: u64 = 126;
+
+// The words of a line that has N.
+fn line<const N: usize>(w: &[u64]) -> Option<[u64; N]> {
+    w.try_into().ok()
+}
 
 pub(crate) fn is_finite(w: &[u64]) -> Option<bool> {
-    let [x, y] = *w else {
-        return None;
-    };
+    let [x, y]: [u64; 2] = line(w)?;
     Some(u64::from(numeric::is_finite(single(x))) == y)
 }
 
 pub(crate) fn flush_denormal(w: &[u64]) -> Option<bool> {
-    let [x, y] = *w else {
-        return None;
-    };
+    let [x, y]: [u64; 2] = line(w)?;
     Some(same(numeric::flush_denormal(single(x)), y))
 }
 
 pub(crate) fn clip(w: &[u64]) -> Option<bool> {
-    let [x, limit, y] = *w else {
-        return None;
-    };
+    let [x, limit, y]: [u64; 3] = line(w)?;
     Some(same(numeric::clip(single(x), single(limit)), y))
 }
 
 pub(crate) fn narrow(w: &[u64]) -> Option<bool> {
-    let [x, y] = *w else {
-        return None;
-    };
+    let [x, y]: [u64; 2] = line(w)?;
     Some(same(numeric::narrow(double(x)), y))
 }
 
 // The damping is the tracker's own.
 pub(crate) fn loop_gains(w: &[u64]) -> Option<bool> {
-    let [bandwidth, damping, kp, ki] = *w else {
-        return None;
-    };
+    let [bandwidth, damping, kp, ki]: [u64; 4] = line(w)?;
     let damping = double(damping);
     let g = costas::loop_gains(double(bandwidth), damping);
     Some((damping == costas::PHASE_DAMPING) & same(g.kp, kp) & same(g.ki, ki))
 }
 
 pub(crate) fn phase_step(w: &[u64]) -> Option<bool> {
-    let [x, y] = *w else {
-        return None;
-    };
+    let [x, y]: [u64; 2] = line(w)?;
     Some(u64::from(costas_step::phase_step_f32(single(x))) == y)
 }
 
 pub(crate) fn integrate(w: &[u64]) -> Option<bool> {
-    let [x, step, y] = *w else {
-        return None;
-    };
+    let [x, step, y]: [u64; 3] = line(w)?;
     Some(same(costas::integrate(single(x), single(step)), y))
 }
 
 pub(crate) fn interp_pair(w: &[u64]) -> Option<bool> {
-    let [phase, c, s] = *w else {
-        return None;
-    };
+    let [phase, c, s]: [u64; 3] = line(w)?;
     let t = mix::interp_f32_pair(whole(phase));
     Some(same(t.c, c) & same(t.s, s))
 }
@@ -118,35 +108,23 @@ fn turn(c: u64, s: u64) -> CosSin {
     }
 }
 
-// A rotation, of a number by a turn.
-fn rotated<F: Fn(C32, CosSin) -> C32>(w: &[u64], rotation: F) -> Option<bool>
-    requires { F.IsAlwaysCallable rotation }
-{
-    let [re, im, c, s, y, z] = *w else {
-        return None;
-    };
-    Some(same_complex(rotation(complex(re, im), turn(c, s)), y, z))
-}
-
 pub(crate) fn derotate(w: &[u64]) -> Option<bool> {
-    rotated(w, costas::derotate)
+    let [re, im, c, s, y, z]: [u64; 6] = line(w)?;
+    Some(same_complex(costas::derotate(complex(re, im), turn(c, s)), y, z))
 }
 
 pub(crate) fn rotate(w: &[u64]) -> Option<bool> {
-    rotated(w, costas::rotate)
+    let [re, im, c, s, y, z]: [u64; 6] = line(w)?;
+    Some(same_complex(costas::rotate(complex(re, im), turn(c, s)), y, z))
 }
 
 pub(crate) fn octant_point(w: &[u64]) -> Option<bool> {
-    let [re, im, y, z] = *w else {
-        return None;
-    };
+    let [re, im, y, z]: [u64; 4] = line(w)?;
     Some(same_complex(costas::octant_point(complex(re, im)), y, z))
 }
 
 pub(crate) fn decide_level(w: &[u64]) -> Option<bool> {
-    let [k, x, level] = *w else {
-        return None;
-    };
+    let [k, x, level]: [u64; 3] = line(w)?;
     let qam = match case_of(k) {
         Some(EqConstellation::Qam16) => Qam::Qam16,
         Some(EqConstellation::Qam64) => Qam::Qam64,
@@ -156,31 +134,25 @@ pub(crate) fn decide_level(w: &[u64]) -> Option<bool> {
 }
 
 pub(crate) fn decide(w: &[u64]) -> Option<bool> {
-    let [k, re, im, y, z] = *w else {
-        return None;
-    };
+    let [k, re, im, y, z]: [u64; 5] = line(w)?;
     Some(case_of(k).is_some_and(|k| same_complex(constellation::decide(k, complex(re, im)), y, z)))
 }
 
 pub(crate) fn cma_r2(w: &[u64]) -> Option<bool> {
-    let [k, y] = *w else {
-        return None;
-    };
+    let [k, y]: [u64; 2] = line(w)?;
     Some(case_of(k).is_some_and(|k| same(constellation::cma_r2(k), y)))
 }
 
 // The count of taps, the parts of the window, those of the weights, then the sum.
 pub(crate) fn dot_complex(mut w: &[u64]) -> Option<bool> {
     let n = *w.split_off_first()?;
-    if n > MOST_TAPS {
+    if n > DOT_TAPS {
         return None;
     }
     let parts = 2 * (n as usize);
     let window = floats(w.split_off(..parts)?);
     let weights = floats(w.split_off(..parts)?);
-    let [re, im] = *w else {
-        return None;
-    };
+    let [re, im]: [u64; 2] = line(w)?;
     let y = dot::dot_complex_c32(window.as_slice(), weights.as_slice());
     Some(same_complex(y, re, im))
 }

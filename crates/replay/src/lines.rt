@@ -49,7 +49,7 @@ impl fmt::Display for Tally {
     }
 }
 
-// The value of a hexadecimal digit in lower case.
+// The value of a hexadecimal digit in lower case. No `to_digit`: it takes upper case too.
 fn digit(b: u8) -> Option<u64> {
     match b {
         b'0'..=b'9' => Some(u64::from(b - b'0')),

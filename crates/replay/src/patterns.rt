@@ -1,4 +1,4 @@
-// Floats and their patterns. Every NaN is taken alike.
+// Floats and their patterns. Every NaN is taken alike. Two functions each for f32 and f64: a trait over both would take more lines than they have.
 use std::num::{
     f32_from_bits_with_nan, f32_to_bits_with_nan, f64_from_bits_with_nan, f64_to_bits_with_nan,
 };
@@ -13,19 +13,19 @@ pub(crate) fn double(w: u64) -> f64 {
     f64_from_bits_with_nan(w)
 }
 
-// Whether two f32 have one pattern, or both are NaNs.
-pub(crate) fn alike(x: f32, y: f32) -> bool {
-    f32_to_bits_with_nan(x) == f32_to_bits_with_nan(y)
+// The pattern of an f32.
+pub(crate) fn pattern(x: f32) -> u64 {
+    u64::from(f32_to_bits_with_nan(x))
+}
+
+// The pattern of an f64.
+pub(crate) fn pattern_double(x: f64) -> u64 {
+    f64_to_bits_with_nan(x)
 }
 
 // Whether x has the pattern w, or both are NaNs.
 pub(crate) fn same(x: f32, w: u64) -> bool {
-    w <= 0xffff_ffff && alike(x, single(w))
-}
-
-// Whether two f64 have one pattern, or both are NaNs.
-pub(crate) fn alike_double(x: f64, y: f64) -> bool {
-    f64_to_bits_with_nan(x) == f64_to_bits_with_nan(y)
+    w <= u64::from(u32::MAX) && pattern(x) == pattern(single(w))
 }
 
 // The u32 of a word.

@@ -1,6 +1,6 @@
 // The record of an equalizer, in 14 words: constellation, feedback taps, mu_cma, mu_dd, cma_symbols, the
 // bandwidth's upper and lower half, kp, ki, mode, count, mse, phase, freq.
-use crate::patterns::{alike, alike_double, case_of, double, single, whole};
+use crate::patterns::{case_of, double, pattern, pattern_double, single, whole};
 use crate::words::same_floats;
 use types::{EqParams, EqualizeState};
 
@@ -43,21 +43,26 @@ pub(crate) fn record_of(r: &Record) -> Option<EqualizeState> {
     })
 }
 
-fn same_state(s: EqualizeState, t: EqualizeState) -> bool {
-    let (p, q) = (s.params, t.params);
-    (p.constellation == q.constellation)
-        & (p.feedback_taps == q.feedback_taps)
-        & alike(p.mu_cma, q.mu_cma)
-        & alike(p.mu_dd, q.mu_dd)
-        & (p.cma_symbols == q.cma_symbols)
-        & alike_double(p.phase_bw, q.phase_bw)
-        & alike(s.kp, t.kp)
-        & alike(s.ki, t.ki)
-        & (s.mode == t.mode)
-        & (s.count == t.count)
-        & alike(s.mse, t.mse)
-        & (s.phase == t.phase)
-        & alike(s.freq, t.freq)
+// The words of a record, which are the same where the records are.
+fn words_of(s: EqualizeState) -> Record {
+    let p = s.params;
+    let bandwidth = pattern_double(p.phase_bw);
+    [
+        u64::from(u32::from(p.constellation)),
+        p.feedback_taps as u64,
+        pattern(p.mu_cma),
+        pattern(p.mu_dd),
+        u64::from(p.cma_symbols),
+        bandwidth >> 32,
+        bandwidth & u64::from(u32::MAX),
+        pattern(s.kp),
+        pattern(s.ki),
+        u64::from(u32::from(s.mode)),
+        u64::from(s.count),
+        pattern(s.mse),
+        u64::from(s.phase),
+        pattern(s.freq),
+    ]
 }
 
 // What an operation leaves, in words: the record, the weights, the window.
@@ -82,7 +87,7 @@ impl Left<'_> {
     }
 
     pub(crate) fn is(self, s: EqualizeState, weights: &[f32], window: &[f32]) -> bool {
-        record_of(self.record).is_some_and(|left| same_state(s, left))
+        record_of(self.record).is_some_and(|left| words_of(s) == words_of(left))
             & same_floats(weights, self.weights)
             & same_floats(window, self.window)
     }

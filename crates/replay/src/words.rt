@@ -7,8 +7,12 @@ use arrayvec::ArrayVec;
 // The most words are those of two calls with 4,096 samples and 128 taps.
 pub(crate) type Words = ArrayVec<u64, 18000>;
 
-// The most floats are those of 4,096 samples.
-pub(crate) type Floats = ArrayVec<f32, 8192>;
+// The most samples that a line has, and their floats: nothing of a line has more.
+pub(crate) const MOST_SAMPLES: usize = 4096;
+
+pub(crate) const FLOATS: usize = 2 * MOST_SAMPLES;
+
+pub(crate) type Floats = ArrayVec<f32, FLOATS>;
 
 // The most taps that a line has.
 pub(crate) const MOST_TAPS: u64 = 128;
