@@ -35,7 +35,8 @@ fn all(p: Program<'_>) -> Result<(), Status> {
     each(p.rt, count, |at, end| run(p, at, end))
 }
 
-// Takes a step with the arguments of every run, and stops at the first that is not served. There are no more runs than arguments.
+// Takes a step with the arguments of every run, and stops at the first that is not served. There are no more runs than arguments. By their places: the system
+// is asked for one argument at a time, so that there is no slice to split at `--then`.
 fn each<F: Fn(usize, usize) -> Result<(), Status>>(
     rt: &HostRuntime,
     count: usize,

@@ -1,10 +1,10 @@
 // The options of a run, as the arguments give them.
-ghost use Rattle.std.specs.Prelude.{◌<◌};
 
 use equalizer_stream::{Path, Ways};
 use program::arguments::{Fault, Name, Value};
 use program::{arguments, numbers};
 use std::env::Env;
+use std::ops::Range;
 use types::{EqConstellation, EqParams};
 
 // What is told in the place of a run.
@@ -200,10 +200,13 @@ impl Options {
         }
     }
 
-    // The option at `at` and its value. Answers where the next option stands.
-    fn take(&mut self, rt: &HostRuntime, at: usize, end: usize) -> Result<usize, Fault>
-        requires { at < end }
-    {
+    // The option at `at`, and its value, which may be the next argument.
+    fn take(
+        &mut self,
+        rt: &HostRuntime,
+        at: usize,
+        places: &mut Range<usize>,
+    ) -> Result<(), Fault> {
         let argument = text_of(rt, Value::from(at))?;
         let text = argument.bytes();
         let name = arguments::name_end(text);
@@ -215,19 +218,15 @@ impl Options {
                     return Err(Fault::NotTaken(at));
                 }
                 self.flag(flag);
-                Ok(at + 1)
+                Ok(())
             }
             Some(Kind::Valued(setting, takes)) => {
-                if has_value {
-                    let v = Value { at, from: name + 1 };
-                    self.take_value(rt, at, setting, takes, v)?;
-                    return Ok(at + 1);
-                }
-                if at + 1 == end {
-                    return Err(Fault::NoValue(at));
-                }
-                self.take_value(rt, at, setting, takes, Value::from(at + 1))?;
-                Ok(at + 2)
+                let v = if has_value {
+                    Value { at, from: name + 1 }
+                } else {
+                    Value::from(places.next().ok_or(Fault::NoValue(at))?)
+                };
+                self.take_value(rt, at, setting, takes, v)
             }
         }
     }
@@ -251,16 +250,16 @@ fn text_of(rt: &HostRuntime, v: Value) -> Result<arguments::Text, Fault> {
     arguments::whole_text_of(rt, v).map_err(|_| Fault::Long(v.at))
 }
 
-// The options of the arguments from `start` to before `end`. Every turn takes an argument or two, so there are no more turns than arguments,
-// and the place goes on by itself. No iterator of places: a `for` over one cannot lend it to `take` too. No `while`: a proof that it ends would want of `take` a promise that the place goes on, and a measure.
+// The options of the arguments from `start` to before `end`. There are no more options than arguments, which bounds the loop: a `while let` over the places
+// would want of `take` a promise that it puts none back.
 pub(crate) fn read(rt: &HostRuntime, start: usize, end: usize) -> Result<Options, Fault> {
     let mut o = Options::default();
-    let mut at = start;
+    let mut places = start..end;
     for _ in start..end {
-        if at >= end {
+        let Some(at) = places.next() else {
             break;
-        }
-        at = o.take(rt, at, end)?;
+        };
+        o.take(rt, at, &mut places)?;
     }
     Ok(o)
 }

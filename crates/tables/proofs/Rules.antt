@@ -226,7 +226,6 @@ at_three_quarters : cos_at 3072 ≡ of_bits binary32 0
 unfolding cos_at cos_bits
 at_three_quarters = refl
 
-
 pub table_rules : TableRules
 table_rules = record {
   long = len;
