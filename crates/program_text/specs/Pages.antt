@@ -1,6 +1,21 @@
 -- Text on a page, and what is written there.
-use Rattle.std.specs.Prelude.{ℕ, zero, suc, ◌+◌, ◌/◌, ◌%◌, cond, List, [], ◌∷◌, ◌++◌, nat_lt, slice_index_or, take}
+use Rattle.std.specs.Prelude.{◌≡◌, ℕ, zero, suc, ◌+◌, ◌/◌, ◌%◌, min, max, cond, List, [], ◌∷◌, ◌++◌, length, nat_lt, slice_index_or, take}
 use Rattle.program_words.specs.Words.{divided}
+
+-- A list of bytes that keeps its length, with a text laid over it from a place on, as far as it reaches.
+unfoldable pub laid : List ℕ → ℕ → List ℕ → List ℕ
+laid [] at t = []
+laid (a ∷ p) (suc at) t = a ∷ laid p at t
+laid (a ∷ p) zero [] = a ∷ p
+laid (a ∷ p) zero (b ∷ t) = b ∷ laid p zero t
+
+-- The place behind a text laid so: past the text, or the list's end; a place beyond the end stays.
+unfoldable pub reached : List ℕ → ℕ → List ℕ → ℕ
+reached p at t = max at (min (at + length t) (length p))
+
+-- A text was laid: the list then, and the place behind the text.
+abbrev pub LaidAs : List ℕ → ℕ → List ℕ → List ℕ → ℕ → Type 0
+LaidAs p at t after next = (after ≡ laid p at t) × (next ≡ reached p at t)
 
 -- What stands on a page of n bytes where a text is written behind another: what finds no room is left out.
 unfoldable pub written : ℕ → List ℕ → List ℕ → List ℕ

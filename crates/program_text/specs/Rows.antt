@@ -1,10 +1,16 @@
 -- Known values of each definition.
 use Rattle.std.specs.Prelude.{◌≡◌, ℕ, List, [], ◌∷◌}
-use Rattle.program_text.specs.Pages.{written, numeral, entry_of}
+use Rattle.program_text.specs.Pages.{LaidAs, written, numeral, entry_of}
 
 -- a page of three bytes
 abbrev page : List ℕ
 page = 1 ∷ 2 ∷ 3 ∷ []
+
+-- in the middle; over all; past the end, where it is cut; at the end and beyond it; on no page; nothing
+abbrev pub LaidRows : Type 0
+LaidRows =
+    LaidAs page 1 (9 ∷ []) (1 ∷ 9 ∷ 3 ∷ []) 2 × LaidAs page 0 (7 ∷ 8 ∷ 9 ∷ []) (7 ∷ 8 ∷ 9 ∷ []) 3 × LaidAs page 2 (8 ∷ 9 ∷ []) (1 ∷ 2 ∷ 8 ∷ []) 3
+    × LaidAs page 3 (9 ∷ []) page 3 × LaidAs page 5 (9 ∷ []) page 5 × LaidAs [] 0 (9 ∷ []) [] 0 × LaidAs page 1 [] page 1
 
 -- on an empty page of three bytes; behind a text; past the end, where it is cut; on a full page; nothing
 abbrev pub WrittenRows : Type 0
