@@ -2,7 +2,7 @@
 #![tactic(auto)]
 
 ghost use Rattle.std.specs.Prelude.{◌≡◌, ◌+◌, ◌*◌, ◌<◌, length, slice_set};
-ghost use Rattle.definition.specs.Floats.{norm};
+ghost use Rattle.definition.specs.Floats.{◌+f◌, ◌-f◌, ◌*f◌, complex, norm};
 ghost use Rattle.definition.specs.Slices.{re_at, im_at};
 
 use types::C32;
@@ -27,6 +27,16 @@ pub fn put(x: &mut [f32], i: usize, v: C32)
     let j = 2 * i;
     x[j] = v.re;
     x[j + 1] = v.im;
+}
+
+// a·conj(b)
+pub fn times_conj(a: C32, b: C32) -> C32
+    ensures { result ≡ complex (a.re *f b.re +f a.im *f b.im) (a.im *f b.re -f a.re *f b.im) }
+{
+    C32 {
+        re: a.re * b.re + a.im * b.im,
+        im: a.im * b.re - a.re * b.im,
+    }
 }
 
 // |v|²

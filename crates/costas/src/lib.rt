@@ -36,10 +36,7 @@ pub fn loop_gains(loop_bw: f64, damping: f64) -> LoopGains
 pub fn derotate(x: C32, t: CosSin) -> C32
     ensures { result ≡ derotated x t }
 {
-    C32 {
-        re: x.re * t.c + x.im * t.s,
-        im: x.im * t.c - x.re * t.s,
-    }
+    complex::times_conj(x, C32 { re: t.c, im: t.s })
 }
 
 // v turned by the angle of t: v exp(j phi).

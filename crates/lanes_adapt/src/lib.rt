@@ -27,15 +27,16 @@ fn apart(v: C32) -> bool
     (v.re - v.re) != (v.im - v.im)
 }
 
-// The weight w after a step by g·conj(x). Its parts stand as they are: `dot::Part` would have them with the names and places swapped.
+// The weight w after a step by g·conj(x).
 #[tactic(auto, unfolding(crate::specs::Steps::lane_re, crate::specs::Steps::lane_im))]
 fn stepped(w: C32, limit: f32, x: C32, g: C32) -> C32
     ensures re { result.re ≡ lane_re w.re limit x.re x.im g.re g.im }
     ensures im { result.im ≡ lane_im w.im limit x.re x.im g.re g.im }
 {
+    let d = complex::times_conj(g, x);
     C32 {
-        re: kept(w.re - (g.re * x.re + g.im * x.im), limit),
-        im: kept(w.im - (g.im * x.re - g.re * x.im), limit),
+        re: kept(w.re - d.re, limit),
+        im: kept(w.im - d.im, limit),
     }
 }
 

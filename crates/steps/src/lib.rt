@@ -147,7 +147,7 @@ fn turned(s: EqualizeState, mse: f32, p: f32) -> Track
 fn tracked(s: EqualizeState, z: C32, d: C32, e: C32) -> Track
     ensures { result ≡ track_of s (mse_after s.mse (norm e)) (phase_error z d) }
 {
-    let p = z.im * d.re - z.re * d.im;
+    let p = complex::times_conj(z, d).im;
     let mse = mean(s.mse, e);
     if numeric::is_finite(p) {
         turned(s, mse, p)
