@@ -112,7 +112,7 @@ pub fn octant_point(y: C32) -> C32
 }
 
 // The integrator: flushed, and held to -limit .. limit. In a running loop t is neither tiny nor past the limit: one test first. By the last line alone, which
-// says it all, a sample of 16-QAM with 11 taps took 94.5 ns in runs, and not 91.7.
+// says it all, a sample with 3 taps took 57.5 ns in runs, and not 55.4, and 72.7 by the plain path in blocks of 8, and not 70.6.
 #[tactic(auto, using(crate::proofs::Sizes::kept))]
 pub fn integrate(t: f32, limit: f32) -> f32
     ensures { result ≡ clip (flush t) limit }
