@@ -1,43 +1,27 @@
 -- The end of a run: the windows move back to 64. Assumes nothing.
-use Prim.Native.Nat.{ℕ, ◌+◌, ◌-◌, ◌<◌, ◌≤◌}
-use mathlib.Core.Path.{◌≡◌, ◌∙◌}
+use Prim.Native.Nat.{ℕ, ◌+◌, ◌-◌, ◌≤◌}
+use mathlib.Core.Path.{◌∙◌}
 use mathlib.Core.List.{List}
 use native.Mathlib.Omega.{arith}
-use native.Mathlib.Decide.{dec_lt}
 use lib.ListN.{get_or}
-use lib.Dec.{T}
 use lib.Ieee.{Float, nan}
-use lib.Ieee.Scale.{finite}
 use Rattle.definition.specs.Sample.{Equalizer}
 use Rattle.lanes.specs.Arrays.{Arrays, arrays}
 use Rattle.lanes.specs.Holds.{Lies, Calm, Holds}
 use Rattle.lanes_load.specs.Load.{Moved}
+use Rattle.lanes.proofs.Between.{replaced_at, calm_between}
 use Rattle.lanes.proofs.Places.{lies_kept}
-
-moved_at : (x x' : List Float) (from to count j : ℕ) → Moved from to count x x' → j < count → get_or x' (to + j) nan ≡ get_or x (from + j) nan
-moved_at x x' from to count j m l =
-    let e : from + (to + j - to) ≡ from + j = omega arith in
-    m.done (to + j) (omega arith) (omega arith) ∙ rw e
 
 -- what lay at `from` lies at `to`
 pub moved_lies : (re im re' im' : List Float) (from to : ℕ) (x : List Float) (base count : ℕ) → Moved from to count re re' → Moved from to count im im'
     → Lies re im from x base count → Lies re' im' to x base count
 moved_lies re im re' im' from to x base count a b l = record {
-  re_is = λ j h. moved_at re re' from to count j a h ∙ l.re_is j h;
-  im_is = λ j h. moved_at im im' from to count j b h ∙ l.im_is j h;
+  re_is = λ j h. replaced_at (λ i. get_or re (from + i) nan) to count a j h ∙ l.re_is j h;
+  im_is = λ j h. replaced_at (λ i. get_or im (from + i) nan) to count b j h ∙ l.im_is j h;
 }
-
-fine_at_lem : (x x' : List Float) (from to count k : ℕ) → Moved from to count x x' → from + count ≤ 288 → k < 288 → ((i : ℕ) → i < 288 → T (finite (get_or x i nan)))
-    → Dec (k < to) → Dec (k < to + count) → T (finite (get_or x' k nan))
-fine_at_lem x x' from to count k m r l f (yes p) q = rw (m.low k p) (f k l)
-fine_at_lem x x' from to count k m r l f (no p) (yes q) = rw (m.done k (omega arith) q) (f (from + (k - to)) (omega arith))
-fine_at_lem x x' from to count k m r l f (no p) (no q) = rw (m.high k (omega arith)) (f k l)
 
 moved_calm : (re im re' im' : List Float) (from to count : ℕ) → Moved from to count re re' → Moved from to count im im' → from + count ≤ 288 → Calm re im 288 → Calm re' im' 288
-moved_calm re im re' im' from to count a b r c = record {
-  re_fine = λ k l. fine_at_lem re re' from to count k a r l c.re_fine (dec_lt k to) (dec_lt k (to + count));
-  im_fine = λ k l. fine_at_lem im im' from to count k b r l c.im_fine (dec_lt k to) (dec_lt k (to + count));
-}
+moved_calm re im re' im' from to count a b r c = calm_between a b (λ k p q l. (c.re_fine (from + (k - to)) (omega arith), c.im_fine (from + (k - to)) (omega arith))) c
 
 -- THE END OF A RUN: arrays that hold q at p hold it at 64, once the windows are moved there, the forward one first
 pub end_holds : (n m p : ℕ) (a : Arrays) (xr₁ xi₁ xr' xi' q' : List Float) (q : Equalizer) → n ≤ 63 → m ≤ 63 → p ≤ 64 → Holds n m p a q
@@ -53,7 +37,7 @@ end_holds n m p a xr₁ xi₁ xr' xi' q' q hn hm hp s mr mi br bi bq = record {
     calm = moved_calm xr₁ xi₁ xr' xi' (p + 152) 216 m br bi (omega arith) (moved_calm a.xr a.xi xr₁ xi₁ p 64 n mr mi (omega arith) s.past.calm);
     taps = s.past.taps;
   };
-  squares = record { is = λ j l. moved_at a.q q' (p + 152) 216 m j bq l ∙ s.squares.is j l };
+  squares = record { is = λ j l. replaced_at (λ i. get_or a.q (p + 152 + i) nan) 216 m bq j l ∙ s.squares.is j l };
   fed_back = s.fed_back;
   long = record { xr = br.long ∙ mr.long ∙ s.long.xr; xi = bi.long ∙ mi.long ∙ s.long.xi; q = bq.long ∙ s.long.q };
 }

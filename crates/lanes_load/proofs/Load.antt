@@ -3,7 +3,6 @@ use Prim.Native.Nat.{ℕ, ◌+◌, ◌-◌, ◌*◌, ◌%◌, ◌<◌, ◌≤◌
 use mathlib.Core.Path.{◌≡◌, ◌∙◌}
 use mathlib.Core.List.{List}
 use native.Mathlib.Omega.{arith}
-use native.Mathlib.Decide.{dec_lt}
 use lib.ListN.{length, get_or, replicate, length-replicate, get_or-replicate}
 use lib.Ieee.{Float, nan}
 use Rattle.types.specs.Bits.{zero32}
@@ -19,13 +18,14 @@ use Rattle.definition_laws.proofs.Every.{every-at}
 use Rattle.definition_laws.proofs.Parts.{finite_zero}
 use Rattle.lanes.specs.Powers.{square_at}
 use Rattle.lanes.specs.Arrays.{arrays}
+use Rattle.lanes.proofs.Between.{replaced_at, calm_between}
 use Rattle.lanes.proofs.Places.{lies_kept, half_kept}
 use Rattle.lanes.proofs.Powers.{squares_lie}
 
 pub split_lies : (re im re' im' x : List Float) (at base count : ℕ) → Loaded x at base count re im re' im' → Lies re' im' at x base count
 split_lies re im re' im' x at base count s = record {
-  re_is = λ j l. let e : at + j - at ≡ j = omega arith in s.re.done (at + j) (omega arith) (omega arith) ∙ rw e;
-  im_is = λ j l. let e : at + j - at ≡ j = omega arith in s.im.done (at + j) (omega arith) (omega arith) ∙ rw e;
+  re_is = replaced_at (λ i. re_at x (base + i)) at count s.re;
+  im_is = replaced_at (λ i. im_at x (base + i)) at count s.im;
 }
 
 -- a half of zero lanes that is loaded, and the other half's load before or after it
@@ -47,21 +47,13 @@ half_loaded re im re₀ im₀ x o from base count h a b zr zi s = record {
   };
 }
 
-calm_at : (old re : List Float) (f : ℕ → Float) (at to k : ℕ) → Between f at to old re → T (finite (get_or old k nan)) → ((i : ℕ) → at ≤ i → i < to → T (finite (f i)))
-    → Dec (k < at) → Dec (k < to) → T (finite (get_or re k nan))
-calm_at old re f at to k b l h (yes p) q = rw (b.low k p) l
-calm_at old re f at to k b l h (no p) (yes q) = rw (b.done k (omega arith) q) (h k (omega arith) q)
-calm_at old re f at to k b l h (no p) (no q) = rw (b.high k (omega arith)) l
-
 zero_calm : Calm (replicate 288 zero32) (replicate 288 zero32) 288
 zero_calm = record { re_fine = λ k h. rw (get_or-replicate 288 k zero32 nan h) finite_zero; im_fine = λ k h. rw (get_or-replicate 288 k zero32 nan h) finite_zero }
 
 split_calm : (re₀ im₀ re im x : List Float) (at base count : ℕ) → T (every finite x) → 2 * (base + count) ≤ length x → Calm re₀ im₀ 288
     → Loaded x at base count re₀ im₀ re im → Calm re im 288
-split_calm re₀ im₀ re im x at base count f l c r = record {
-  re_fine = λ k h. calm_at re₀ re (λ i. re_at x (base + (i - at))) at (at + count) k r.re (c.re_fine k h) (λ j a b. every-at finite x (2 * (base + (j - at))) nan f (omega arith)) (dec_lt k at) (dec_lt k (at + count));
-  im_fine = λ k h. calm_at im₀ im (λ i. im_at x (base + (i - at))) at (at + count) k r.im (c.im_fine k h) (λ j a b. every-at finite x (2 * (base + (j - at)) + 1) nan f (omega arith)) (dec_lt k at) (dec_lt k (at + count));
-}
+split_calm re₀ im₀ re im x at base count f l c r =
+    calm_between r.re r.im (λ k p q h. (every-at finite x (2 * (base + (k - at))) nan f (omega arith), every-at finite x (2 * (base + (k - at)) + 1) nan f (omega arith))) c
 
 -- zero arrays, filled from the slices of an accepted equalizer, hold it at 64
 pub load_holds : (n m : ℕ) (wr₁ wi₁ wr wi xr₁ xi₁ xr xi sq : List Float) (q : Equalizer) → Accepted q → forward q ≡ n → feedback q ≡ m
