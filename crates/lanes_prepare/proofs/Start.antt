@@ -3,21 +3,19 @@ use Prim.Native.Nat.{ℕ, ◌+◌, ◌-◌, ◌/◌, ◌<◌, ◌≤◌}
 use mathlib.Core.Path.{◌≡◌, ◌∙◌}
 use mathlib.Core.List.{List}
 use native.Mathlib.Omega.{arith}
-use native.Mathlib.Decide.{dec_lt}
 use lib.ListN.{length, get_or}
-use lib.Dec.{T}
 use lib.Ieee.{Float, nan}
-use lib.Ieee.Scale.{finite}
 use Rattle.definition.specs.Floats.{complex}
 use Rattle.definition.specs.Slices.{re_at, im_at, power}
 use Rattle.definition.specs.Sample.{Equalizer}
 use Rattle.definition_laws.proofs.Kept.{sanitized_finite}
 use Rattle.lanes.specs.Between.{Between}
 use Rattle.lanes_prepare.specs.Entered.{Entered}
-use Rattle.lanes_prepare.proofs.Entry.{held_is}
 use Rattle.lanes.specs.Powers.{square_at, chain_of}
-use Rattle.lanes.specs.Holds.{Lies, Calm, Holds, Put}
+use Rattle.lanes.specs.Holds.{Lies, Holds, Put}
 use Rattle.lanes.specs.Arrays.{arrays}
+use Rattle.lanes.proofs.Between.{calm_between}
+use Rattle.lanes.proofs.Places.{lies_kept}
 use Rattle.lanes.proofs.Powers.{squares_lie, ahead_power}
 
 module _ (x xr xi xr' xi' : List Float) (e : Entered x xr xi xr' xi') (most : length x ≤ 128) where
@@ -25,20 +23,7 @@ module _ (x xr xi xr' xi' : List Float) (e : Entered x xr xi xr' xi') (most : le
   pub entered-put : (k : ℕ) → k < length x / 2 → Put (63 - k) (complex (re_at x k) (im_at x k)) xr' xi'
   entered-put k l =
       let g : 63 - (63 - k) ≡ k = omega arith in
-      record {
-        re = e.re.done (63 - k) (omega arith) (omega arith) ∙ rw g (held_is (re_at x k) (im_at x k)).0;
-        im = e.im.done (63 - k) (omega arith) (omega arith) ∙ rw g (held_is (re_at x k) (im_at x k)).1;
-      }
-
-  fine_re : (i : ℕ) → Calm xr xi 288 → i < 288 → Dec (i < 64 - length x / 2) → Dec (i < 64) → T (finite (get_or xr' i nan))
-  fine_re i c l (yes p) q = rw (e.re.low i p) (c.re_fine i l)
-  fine_re i c l (no p) (yes q) = rw (e.re.done i (omega arith) q ∙ (held_is (re_at x (63 - i)) (im_at x (63 - i))).0) (sanitized_finite (complex (re_at x (63 - i)) (im_at x (63 - i)))).0
-  fine_re i c l (no p) (no q) = rw (e.re.high i (omega arith)) (c.re_fine i l)
-
-  fine_im : (i : ℕ) → Calm xr xi 288 → i < 288 → Dec (i < 64 - length x / 2) → Dec (i < 64) → T (finite (get_or xi' i nan))
-  fine_im i c l (yes p) q = rw (e.im.low i p) (c.im_fine i l)
-  fine_im i c l (no p) (yes q) = rw (e.im.done i (omega arith) q ∙ (held_is (re_at x (63 - i)) (im_at x (63 - i))).1) (sanitized_finite (complex (re_at x (63 - i)) (im_at x (63 - i)))).1
-  fine_im i c l (no p) (no q) = rw (e.im.high i (omega arith)) (c.im_fine i l)
+      record { re = e.re.done (63 - k) (omega arith) (omega arith) ∙ rw g; im = e.im.done (63 - k) (omega arith) (omega arith) ∙ rw g }
 
   -- the window from 64 on and the squares from 216 on stay as they were
   pub entered-holds : (n m : ℕ) (wr wi sq sq' : List Float) (f : ℕ → Float) (lo hi : ℕ) (q : Equalizer) → hi ≤ 216 → Between f lo hi sq sq'
@@ -46,18 +31,9 @@ module _ (x xr xi xr' xi' : List Float) (e : Entered x xr xi xr' xi') (most : le
   entered-holds n m wr wi sq sq' f lo hi q b z s = record {
     weights = s.weights;
     past = record {
-      forth = record {
-        re_is = λ j l. e.re.high (64 + j) (omega arith) ∙ s.past.forth.re_is j l;
-        im_is = λ j l. e.im.high (64 + j) (omega arith) ∙ s.past.forth.im_is j l;
-      };
-      back = record {
-        re_is = λ j l. e.re.high (216 + j) (omega arith) ∙ s.past.back.re_is j l;
-        im_is = λ j l. e.im.high (216 + j) (omega arith) ∙ s.past.back.im_is j l;
-      };
-      calm = record {
-        re_fine = λ i l. fine_re i s.past.calm l (dec_lt i (64 - length x / 2)) (dec_lt i 64);
-        im_fine = λ i l. fine_im i s.past.calm l (dec_lt i (64 - length x / 2)) (dec_lt i 64);
-      };
+      forth = lies_kept xr xi xr' xi' 64 q.window 0 n (λ j l. e.re.high (64 + j) (omega arith)) (λ j l. e.im.high (64 + j) (omega arith)) s.past.forth;
+      back = lies_kept xr xi xr' xi' 216 q.window n m (λ j l. e.re.high (216 + j) (omega arith)) (λ j l. e.im.high (216 + j) (omega arith)) s.past.back;
+      calm = calm_between e.re e.im (λ j l h i. sanitized_finite (complex (re_at x (63 - j)) (im_at x (63 - j)))) s.past.calm;
       taps = s.past.taps;
     };
     squares = record { is = λ j l. z.high (216 + j) (omega arith) ∙ s.squares.is j l };
