@@ -1,10 +1,9 @@
 -- The representation is kept by one sample. Assumes nothing.
-use Prim.Native.Nat.{ℕ, zero, suc, ◌+◌, ◌*◌, ◌<◌, ◌≤◌}
+use Prim.Native.Nat.{ℕ, suc, ◌+◌, ◌*◌, ◌<◌, ◌≤◌}
 use mathlib.Core.Path.{◌≡◌, sym, ◌∙◌, ap}
-use mathlib.Core.List.{List, ◌++◌}
+use mathlib.Core.List.{List}
 use native.Mathlib.Omega.{arith}
-use native.Mathlib.Decide.{ℕ_discrete}
-use lib.ListN.{length, get_or, set, take, drop, length-set}
+use lib.ListN.{length, get_or, set, length-set}
 use lib.Seq.{get_or-set_same, get_or-set_other}
 use lib.Dec.{T}
 use lib.Ieee.{Float, nan}
@@ -12,12 +11,13 @@ use lib.Ieee.Scale.{finite}
 use Rattle.types.specs.declared.C32.{C32}
 use Rattle.types.specs.declared.EqualizeState.{EqualizeState}
 use Rattle.definition.specs.Floats.{norm, complex}
-use Rattle.definition.specs.Slices.{re_at, im_at, shifted}
+use Rattle.definition.specs.Slices.{re_at, im_at}
 use Rattle.definition.specs.Sample.{Equalizer, Stage, all_taps, forward, sanitized, step1, fed_in, step8}
 use Rattle.definition_laws.proofs.Kept.{advance_keeps}
 use Rattle.lanes.specs.Holds.{Weights, Window, Past, Squares, Holds, Put}
 use Rattle.lanes.specs.Arrays.{Arrays, arrays}
-use Rattle.lanes_sample.proofs.Windows.{window_in, after-head-re, after-head-im, after-first-re, after-first-im, after-more-re, after-more-im, after-long}
+use Rattle.lanes.proofs.Between.{between_one, calm_between}
+use Rattle.lanes_sample.proofs.Windows.{window_in, in_front, after_head, after_first, after_more, after_long}
 
 -- ---- the equalizer's own numbers
 module _ {n m p : ℕ} {a : Arrays} {q : Equalizer} (s : Holds n m p a q) where
@@ -48,43 +48,42 @@ squares_is n m at xr xi q x h a s w =
     }
 
 -- ---- step 8: the fed-back sample at at + 152
-set_calm : (x : List Float) (i : ℕ) (v : Float) (k : ℕ) → i < length x → T (finite v) → T (finite (get_or x k nan)) → Dec (k ≡ i) → T (finite (get_or (set x i v) k nan))
-set_calm x i v k l f g (yes e) = rw (e, get_or-set_same x i v nan l) f
-set_calm x i v k l f g (no d) = rw (get_or-set_other x i k v nan d) g
-
--- of a part, or of the squares: v at at + 152, and above it what stood from at + 153 on
-fed : (l : List Float) (at m : ℕ) (v : Float) (x y : ℕ → Float) → at ≤ 63 → length l ≡ 288 → ((j : ℕ) → j < m → get_or l (at + 153 + j) nan ≡ x j)
-    → (0 < m → y 0 ≡ v) → ((j : ℕ) → suc j < m → y (suc j) ≡ x j) → (j : ℕ) → j < m → get_or (set l (at + 152) v) (at + 152 + j) nan ≡ y j
-fed l at m v x y low long old first more zero h =
-    let e : at + 152 + 0 ≡ at + 152 = omega arith in
-    rw e (get_or-set_same l (at + 152) v nan (omega arith) ∙ sym (first h))
-fed l at m v x y low long old first more (suc j) h =
-    let e : at + 152 + suc j ≡ at + 153 + j = omega arith in
-    rw e (get_or-set_other l (at + 152) (at + 153 + j) v nan (λ (z : at + 153 + j ≡ at + 152). omega arith) ∙ old j (omega arith) ∙ sym (more j h))
-
 module _ (n m at : ℕ) (xr xi q h : List Float) (v : C32) (w : Window n m at xr xi h) (low : at ≤ 63) (most : n ≤ 63)
     (lr : length xr ≡ 288) (li : length xi ≡ 288) (lq : length q ≡ 288) (fr : T (finite v.re)) (fi : T (finite v.im)) where
-  pub past_next : Past n m at (set xr (at + 152) v.re) (set xi (at + 152) v.im) (take (2 * n) h ++ shifted m v (drop (2 * n) h))
-  past_next = record {
-    forth = record {
-      re_is = λ j l. get_or-set_other xr (at + 152) (at + j) v.re nan (λ (z : at + j ≡ at + 152). omega arith) ∙ w.forth.re_is j l ∙ (let e : 0 + j ≡ j = omega arith in rw e (sym (after-head-re n m v h w.taps j l)));
-      im_is = λ j l. get_or-set_other xi (at + 152) (at + j) v.im nan (λ (z : at + j ≡ at + 152). omega arith) ∙ w.forth.im_is j l ∙ (let e : 0 + j ≡ j = omega arith in rw e (sym (after-head-im n m v h w.taps j l)));
-    };
-    back = record {
-      re_is = fed xr at m v.re (λ j. re_at h (n + j)) (λ j. re_at (take (2 * n) h ++ shifted m v (drop (2 * n) h)) (n + j)) low lr w.back.re_is (after-first-re n m v h w.taps) (after-more-re n m v h w.taps);
-      im_is = fed xi at m v.im (λ j. im_at h (n + j)) (λ j. im_at (take (2 * n) h ++ shifted m v (drop (2 * n) h)) (n + j)) low li w.back.im_is (after-first-im n m v h w.taps) (after-more-im n m v h w.taps);
-    };
-    calm = record {
-      re_fine = λ k l. set_calm xr (at + 152) v.re k (omega arith) fr (w.calm.re_fine k l) (ℕ_discrete k (at + 152));
-      im_fine = λ k l. set_calm xi (at + 152) v.im k (omega arith) fi (w.calm.im_fine k l) (ℕ_discrete k (at + 152));
-    };
-    taps = after-long n m v h w.taps;
-  }
+  -- of a part, or of the squares: u in front of what stood from at + 153 on
+  fed : (l : List Float) (u : Float) (x y : ℕ → Float) → length l ≡ 288 → ((j : ℕ) → j < m → get_or l (at + 153 + j) nan ≡ x j)
+      → (0 < m → y 0 ≡ u) → ((j : ℕ) → suc j < m → y (suc j) ≡ x j) → (j : ℕ) → j < m → get_or (set l (at + 152) u) (at + 152 + j) nan ≡ y j
+  fed l u x y long old =
+      in_front (set l (at + 152) u) (at + 152) m u x y (get_or-set_same l (at + 152) u nan (omega arith))
+      (λ j b. let e : at + 152 + 1 + j ≡ at + 153 + j = omega arith in rw e (get_or-set_other l (at + 152) (at + 153 + j) u nan (λ (z : at + 153 + j ≡ at + 152). omega arith) ∙ old j b))
 
-  pub squares-next : Squares q (at + 153) h n m → Squares (set q (at + 152) (norm v)) (at + 152) (take (2 * n) h ++ shifted m v (drop (2 * n) h)) n m
-  squares-next s = record {
-    is = fed q at m (norm v) (λ j. norm (complex (re_at h (n + j)) (im_at h (n + j)))) (λ j. norm (complex (re_at (take (2 * n) h ++ shifted m v (drop (2 * n) h)) (n + j)) (im_at (take (2 * n) h ++ shifted m v (drop (2 * n) h)) (n + j)))) low lq s.is
-        (λ l. rw (after-first-re n m v h w.taps l, after-first-im n m v h w.taps l)) (λ j l. rw (after-more-re n m v h w.taps j l, after-more-im n m v h w.taps j l));
+  first : 0 < m → (re_at (fed_in n m v h) (n + 0) ≡ v.re) × (im_at (fed_in n m v h) (n + 0) ≡ v.im)
+  first = after_first n m v h w.taps
+
+  more : (j : ℕ) → suc j < m → (re_at (fed_in n m v h) (n + suc j) ≡ re_at h (n + j)) × (im_at (fed_in n m v h) (n + suc j) ≡ im_at h (n + j))
+  more = after_more n m v h w.taps
+
+  pub past_next : Past n m at (set xr (at + 152) v.re) (set xi (at + 152) v.im) (fed_in n m v h)
+  past_next =
+      let br = between_one (at + 152) v.re xr (omega arith) in
+      let bi = between_one (at + 152) v.im xi (omega arith) in
+      record {
+        forth = record {
+          re_is = λ j l. br.low (at + j) (omega arith) ∙ w.forth.re_is j l ∙ sym (after_head n m v h w.taps (2 * (0 + j)) (omega arith));
+          im_is = λ j l. bi.low (at + j) (omega arith) ∙ w.forth.im_is j l ∙ sym (after_head n m v h w.taps (2 * (0 + j) + 1) (omega arith));
+        };
+        back = record {
+          re_is = fed xr v.re (λ j. re_at h (n + j)) (λ j. re_at (fed_in n m v h) (n + j)) lr w.back.re_is (λ l. (first l).0) (λ j l. (more j l).0);
+          im_is = fed xi v.im (λ j. im_at h (n + j)) (λ j. im_at (fed_in n m v h) (n + j)) li w.back.im_is (λ l. (first l).1) (λ j l. (more j l).1);
+        };
+        calm = calm_between br bi (λ k p q l. (fr, fi)) w.calm;
+        taps = after_long n m v h w.taps;
+      }
+
+  pub squares_next : Squares q (at + 153) h n m → Squares (set q (at + 152) (norm v)) (at + 152) (fed_in n m v h) n m
+  squares_next s = record {
+    is = fed q (norm v) (λ j. norm (complex (re_at h (n + j)) (im_at h (n + j)))) (λ j. norm (complex (re_at (fed_in n m v h) (n + j)) (im_at (fed_in n m v h) (n + j)))) lq s.is
+        (λ l. rw ((first l).0, (first l).1)) (λ j l. rw ((more j l).0, (more j l).1));
   }
 
 -- the squares of the feedback part, after step 1
@@ -97,7 +96,7 @@ pub holds_next : (n m at : ℕ) (a : Arrays) (q : Equalizer) (x : C32) (t : Stag
     → Weights n m wr' wi' t.weights → t.state.params ≡ q.state.params → T (finite t.fed.re) → T (finite t.fed.im)
     → Holds n m at (arrays wr' wi' (set a.xr (at + 152) t.fed.re) (set a.xi (at + 152) t.fed.im) (set a.q (at + 152) (norm t.fed)))
     (step8 n m (step1 n x q.window) t).equalizer
-unfolding step8 fed_in
+unfolding step8
 holds_next n m at a q x t wr' wi' low most s g p e fr fi =
     let h = step1 n x q.window in
     let w = window_is n m at a q x s g in
@@ -107,7 +106,7 @@ holds_next n m at a q x t wr' wi' low most s g p e fr fi =
     record {
       weights = p;
       past = past_next n m at a.xr a.xi a.q h t.fed w low most l.xr l.xi l.q fr fi;
-      squares = squares-next n m at a.xr a.xi a.q h t.fed w low most l.xr l.xi l.q fr fi z;
+      squares = squares_next n m at a.xr a.xi a.q h t.fed w low most l.xr l.xi l.q fr fi z;
       fed_back = rw same s.fed_back;
       long = record { xr = simp length-set l.xr; xi = simp length-set l.xi; q = simp length-set l.q };
     }
