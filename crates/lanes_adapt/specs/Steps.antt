@@ -1,9 +1,10 @@
 -- The weights' step on split lanes, by index.
-use Rattle.std.specs.Prelude.{ℕ, zero, suc, ◌+◌, ◌<◌, ◌≤◌, ◌≡◌, Bool, false, cond, ◌&&◌, ◌||◌, List, length, get_or, Float}
+use Rattle.std.specs.Prelude.{ℕ, zero, suc, ◌+◌, Bool, false, cond, ◌&&◌, ◌||◌, List, get_or, Float}
 use Rattle.std.specs.Float.{nan}
 use Rattle.std.specs.Float.Ieee.{lt, ne, neg}
 use Rattle.types.specs.Bits.{zero32, one32}
 use Rattle.definition.specs.Floats.{◌+f◌, ◌-f◌, ◌*f◌}
+pub use Rattle.lanes.specs.Between.{Replaced}
 
 unfoldable pub kept_of : Float → Float → Float
 kept_of v l = cond (lt v l && lt (neg l) v) zero32 v
@@ -28,29 +29,12 @@ unfoldable pub any_of : ℕ → (ℕ → Bool) → Bool
 any_of zero p = false
 any_of (suc n) p = any_of n p || p n
 
--- n elements of old, from o on, replaced by f
-pub record Replaced (f : ℕ → Float) (o n : ℕ) (old l : List Float) : Type 0 where
-  pub long : length l ≡ length old
-  pub done : (k : ℕ) → k < n → get_or l (o + k) nan ≡ f k
-  pub low : (k : ℕ) → k < o → get_or l k nan ≡ get_or old k nan
-  pub high : (k : ℕ) → o + n ≤ k → get_or l k nan ≡ get_or old k nan
-
--- the same, said of the 72 lanes from o on alone
-pub record Within (f : ℕ → Float) (o n : ℕ) (old l : List Float) : Type 0 where
-  pub long : length l ≡ length old
-  pub done : (k : ℕ) → k < n → get_or l (o + k) nan ≡ f k
-  pub kept : (k : ℕ) → n ≤ k → k < 72 → get_or l (o + k) nan ≡ get_or old (o + k) nan
-
 -- lane o + i of a step
 abbrev pub step_re : List Float → List Float → List Float → List Float → ℕ → ℕ → Float → Float → ℕ → Float
 step_re w limit xr xi at o gr gi i = lane_re (get_or w (o + i) nan) (get_or limit (o + i) nan) (get_or xr (at + i) nan) (get_or xi (at + i) nan) gr gi
 
 abbrev pub step_im : List Float → List Float → List Float → List Float → ℕ → ℕ → Float → Float → ℕ → Float
 step_im w limit xr xi at o gr gi i = lane_im (get_or w (o + i) nan) (get_or limit (o + i) nan) (get_or xr (at + i) nan) (get_or xi (at + i) nan) gr gi
-
--- whether one of the 72 lanes from o on is a weight that is not finite
-unfoldable pub broken_in : List Float → List Float → List Float → ℕ → Bool
-broken_in wr wi limit o = any_of 72 (λ i. broken_at (get_or wr (o + i) nan) (get_or wi (o + i) nan) (get_or limit (o + i) nan))
 
 -- lane o + i cleared
 abbrev pub clear_in : List Float → List Float → Bool → ℕ → ℕ → Float

@@ -1,6 +1,7 @@
 -- `cleared` clears the lanes: each turn of its loop clears one.
 use mathlib.Core.Bool.{false}
-use Rattle.lanes_adapt.specs.Steps.{clear_in, Replaced}
+use Rattle.lanes.specs.Between.{Replaced}
+use Rattle.lanes_adapt.specs.Steps.{clear_in}
 use Rattle.lanes_adapt.proofs.cleared.Given as goal
 
 abbrev pub invariant-loop-k : goal.invariant-loop-k
