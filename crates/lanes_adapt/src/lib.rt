@@ -80,7 +80,6 @@ fn broken_at(v: C32, limit: f32) -> bool
 }
 
 // Whether one of the weights is not finite: padding does not count.
-#[tactic(auto, using(crate::proofs::Loops::any_none, crate::proofs::Loops::any_more))]
 fn broken(w: &Weights, limit: &[f32; LANES]) -> bool
     ensures { result ≡ ruined w.now.re w.now.im limit.now }
 {

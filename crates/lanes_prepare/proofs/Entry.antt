@@ -10,14 +10,11 @@ use Rattle.definition.specs.Sample.{sanitized}
 use Rattle.definition.specs.Slices.{re_at, im_at}
 use Rattle.lanes.specs.Between.{Between}
 use Rattle.lanes_prepare.specs.Entered.{entered_at}
-use Rattle.lanes.proofs.Between.{between_none, between_down}
+use Rattle.lanes.proofs.Between.{between_down}
 
 pub record Entry (x xr₀ xi₀ : List Float) (k : ℕ) (xr xi : List Float) : Type 0 where
   pub re : Between (λ j. (entered_at x j).re) (64 - k) 64 xr₀ xr
   pub im : Between (λ j. (entered_at x j).im) (64 - k) 64 xi₀ xi
-
-pub entry_none : (x xr xi : List Float) → Entry x xr xi 0 xr xi
-entry_none x xr xi = record { re = between_none _ _ _; im = between_none _ _ _ }
 
 pub entry_more : (x xr₀ xi₀ : List Float) (k : ℕ) (xr xi : List Float) (c v : C32)
     → Entry x xr₀ xi₀ k xr xi → k < 64 → length xr ≡ 288 → length xi ≡ 288 → (c.re ≡ re_at x k) × (c.im ≡ im_at x k) → v ≡ sanitized c
