@@ -18,6 +18,7 @@ ghost use Rattle.steps.specs.Step.{stage, did};
 ghost use Rattle.plain.specs.Taps.{Beside};
 
 // Steps 4 to 7: a sample whose sum y is finite. Cosine and sine come before the powers: they need not wait behind those long sums.
+#[tactic(auto, using(crate::proofs::OneSample::heard_by, crate::proofs::OneSample::power_none))]
 fn hear(s: EqualizeState, w: &mut [f32], h: &[f32], y: C32, taps: Taps) -> Stage
     requires { Beside s w.old h.now taps }
     ensures { stage s result w.new ≡ heard_as s w.old taps.all taps.forward h.now (hearDef s taps.all taps.forward h.now y) }
@@ -31,7 +32,8 @@ fn hear(s: EqualizeState, w: &mut [f32], h: &[f32], y: C32, taps: Taps) -> Stage
     Stage::from(r)
 }
 
-// Steps 2 to 7, over the shifted window.
+// Steps 2 to 7, over the shifted window. The two tests stand in `run_samples` too: shared, by a `?` on the mark or with the sum as a closure, they would be longer.
+#[tactic(auto, using(crate::proofs::OneSample::took_blank, crate::proofs::OneSample::took_spilled, crate::proofs::OneSample::took_heard))]
 fn take(s: EqualizeState, w: &mut [f32], h: &[f32], x: C32, taps: Taps) -> Stage
     requires { Beside s w.old h.now taps }
     ensures { stage s result w.new ≡ step3 s w.old taps.all taps.forward x h.now (step2 taps.all w.old h.now) }
@@ -64,11 +66,7 @@ fn sample_sized(s: EqualizeState, w: &mut [f32], h: &mut [f32], x: C32, taps: Ta
     slices::shift(h, taps.forward, numeric::sanitize(x));
     let r = take(s, w, h, x, taps);
     feed(h, taps, r.fed);
-    Sampled {
-        state: record_mode::advance(r.track.on(s)),
-        out: r.out,
-        mark: r.mark,
-    }
+    r.sampled(s)
 }
 
 // One sample of an accepted record.
@@ -85,6 +83,7 @@ fn sample(s: EqualizeState, w: &mut [f32], h: &mut [f32], x: C32) -> Sampled
 }
 
 // A block of samples.
+#[tactic(auto, using(crate::proofs::BlockLoop::turns_all))]
 pub fn block(
     state: EqualizeState,
     weights: &mut [f32],

@@ -27,6 +27,6 @@ module _ (s : EqualizeState) where
     unfolding advance advance_in
     adv_switch l = rw (m, ne_eqb s.params.cma_symbols never_switch t, le-ltb (s.count + 1) s.params.cma_symbols l)
 
-    pub count-below : rule_r4 s ≡ true → s.count < s.params.cma_symbols
+    pub count_below : rule_r4 s ≡ true → s.count < s.params.cma_symbols
     unfolding rule_r4 count_fits
-    count-below h = ltb→lt _ _ (subst T (sym (rw (m, ne_eqb s.params.cma_symbols never_switch t) at h)) tt)
+    count_below h = ltb→lt _ _ (subst T (sym (rw (m, ne_eqb s.params.cma_symbols never_switch t) at h)) tt)

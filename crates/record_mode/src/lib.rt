@@ -9,7 +9,7 @@ use types::{EqMode, EqParams, EqualizeState};
 
 // The count and the mode after a sample. R4 is asked here, and is no invariant of the record: that goes by value with free fields, as the specification
 // has it, and a call tests it.
-#[tactic(auto, using(crate::proofs::Counts::adv_never, crate::proofs::Counts::adv_decision, crate::proofs::Counts::adv_more, crate::proofs::Counts::adv_switch))]
+#[tactic(auto, using(crate::proofs::Counts::adv_never, crate::proofs::Counts::adv_decision, crate::proofs::Counts::adv_more, crate::proofs::Counts::adv_switch, crate::proofs::Counts::count_below))]
 pub fn advance(s: EqualizeState) -> EqualizeState
     requires { rule_r4 s ≡ true }
     ensures { result ≡ advanceDef s }
@@ -17,19 +17,15 @@ pub fn advance(s: EqualizeState) -> EqualizeState
     let total = s.params.cma_symbols;
     match s.mode {
         EqMode::Decision => s,
+        EqMode::Cma if total == EqParams::NEVER_SWITCH => s,
         EqMode::Cma => {
-            if total == EqParams::NEVER_SWITCH {
-                return s;
-            }
             let count = s.count + 1;
-            if count < total {
-                return EqualizeState { count, ..s };
-            }
-            EqualizeState {
-                mode: EqMode::Decision,
-                count,
-                ..s
-            }
+            let mode = if count < total {
+                EqMode::Cma
+            } else {
+                EqMode::Decision
+            };
+            EqualizeState { mode, count, ..s }
         }
     }
 }

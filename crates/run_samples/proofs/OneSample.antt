@@ -35,7 +35,8 @@ use Rattle.lanes_sample.proofs.Sample.{absorbed, measure_is, sample_by, sample_b
 use Rattle.steps.specs.declared.Track.{Track}
 use Rattle.lanes.specs.declared.Shape.{Shape}
 use Rattle.steps.specs.declared.Stage.{Stage}
-use Rattle.steps.specs.Step.{track_of, update_if, step_at, step_with, step_of, with_track, heard_of, unheard_of, stage, did}
+use Rattle.steps.specs.declared.Sampled.{Sampled}
+use Rattle.steps.specs.Step.{track_of, update_if, step_at, step_with, step_of, with_track, heard_of, unheard_of, stage, sampled_of, did}
 use Rattle.run_samples.specs.Sample.{size_of, stage_of, Before, StageIs, Takes, Samples}
 
 -- ---- steps 4 to 7
@@ -75,35 +76,28 @@ module _ (s : EqualizeState) (g : Shape) (at : ℕ) (x : C32) (F ahead : Float) 
   size-go n w h f (no d) = rw (ne_eqb g.m 0 d) (ap (step_size (mu_of s.mode s.params)) (sums n w h f).1)
 
   module _ (r : Stage) (b : Bool) (i : b ≡ finite_c x) where
-    unheard : ((n : ℕ) (w h : List Float) → Before s g n at x F ahead limit a w h → StageIs s n g.m x w h Hold r)
-        → Takes s g at x F ahead limit a a.wr a.wi r
+    unheard : (wr wi : List Float) → wr ≡ a.wr → wi ≡ a.wi → ((n : ℕ) (w h : List Float) → Before s g n at x F ahead limit a w h → StageIs s n g.m x w h Hold r)
+        → Takes s g at x F ahead limit a wr wi r
     unfolding adapted
-    unheard t = record { update = Hold; adapts = record { holds = λ n m w h k. k.weights }; stage_is = t }
+    unheard wr wi e f t = rw (e, f) (record { update = Hold; adapts = record { holds = λ n m w h k. k.weights }; stage_is = t })
 
-    pub take-blank : b ≡ false → r ≡ unheard_of s Blank → Takes s g at x F ahead limit a a.wr a.wi r
-    take-blank d q = unheard (λ n w h f. rw q (took-blank s w h n g.m x y (sums n w h f).0 (sym i ∙ d)))
+    pub take_blank : b ≡ false → r ≡ unheard_of s Blank → (wr wi : List Float) → wr ≡ a.wr → wi ≡ a.wi → Takes s g at x F ahead limit a wr wi r
+    take_blank d q wr wi e f = unheard wr wi e f (λ n w h f. rw q (took-blank s w h n g.m x y (sums n w h f).0 (sym i ∙ d)))
 
     module _ (d : b ≡ true) (c : Bool) (j : c ≡ finite_c y) where
-      pub take-spilled : c ≡ false → r ≡ unheard_of s Spilled → Takes s g at x F ahead limit a a.wr a.wi r
-      take-spilled k q = unheard (λ n w h f. rw q (took-spilled s w h n g.m x y (sums n w h f).0 (sym i ∙ d) (sym j ∙ k)))
+      pub take_spilled : c ≡ false → r ≡ unheard_of s Spilled → (wr wi : List Float) → wr ≡ a.wr → wi ≡ a.wi → Takes s g at x F ahead limit a wr wi r
+      take_spilled k q wr wi e f = unheard wr wi e f (λ n w h f. rw q (took-spilled s w h n g.m x y (sums n w h f).0 (sym i ∙ d) (sym j ∙ k)))
 
-      pub take-heard : c ≡ true → (size : Float) (wr' wi' : List Float) → size ≡ size_of s g.m ahead all → r ≡ heard_of (step_of s y F size)
-          → Adapts (step_of s y F size).update a.wr a.wi limit a.xr a.xi at g.quads (at + 153 - g.front) g.mquads g.centre wr' wi'
+      pub take_heard : c ≡ true → (wr' wi' : List Float) → r ≡ heard_of (step_of s y F (size_of s g.m ahead all))
+          → Adapts (step_of s y F (size_of s g.m ahead all)).update a.wr a.wi limit a.xr a.xi at g.quads (at + 153 - g.front) g.mquads g.centre wr' wi'
           → Takes s g at x F ahead limit a wr' wi' r
-      take-heard o size wr' wi' z q k = record {
-        update = (step_of s y F size).update;
+      take_heard o wr' wi' q k = record {
+        update = (step_of s y F (size_of s g.m ahead all)).update;
         adapts = k;
-        stage_is = λ n w h f. rw q (took-heard s w h n g.m x y (sums n w h f).0 F size (sym i ∙ d) (sym j ∙ o) f.power_is (z ∙ size-go n w h f (ℕ_discrete g.m 0)));
+        stage_is = λ n w h f. rw q (took-heard s w h n g.m x y (sums n w h f).0 F (size_of s g.m ahead all) (sym i ∙ d) (sym j ∙ o) f.power_is (size-go n w h f (ℕ_discrete g.m 0)));
       }
 
 -- ---- `sample`
-tracked_r4 : (s : EqualizeState) (t : Track) → rule_r4 s ≡ true → rule_r4 (with_track s t) ≡ true
-unfolding rule_r4
-tracked_r4 s t e = e
-
-pub track_r4 : (s k : EqualizeState) (t : Track) → rule_r4 s ≡ true → k ≡ with_track s t → rule_r4 k ≡ true
-track_r4 s k t e d = rw d (tracked_r4 s t e)
-
 advanced_r4 : (s : EqualizeState) → rule_r4 s ≡ true → rule_r4 (advance s) ≡ true
 advanced_r4 s e = is_true (rule_r4 (advance s)) (advance_r4 s (subst T (sym e) tt))
 
@@ -130,12 +124,12 @@ by_out : (n m : ℕ) (s : EqualizeState) (w h : List Float) (x : C32) → (sampl
 unfolding sample_by step8 stage_of
 by_out n m s w h x = refl
 
-module _ (s : EqualizeState) (w h : List Float) (n m at : ℕ) (a : Arrays) (x : C32) (r : Stage) (u : Update) (nx : EqualizeState) (k : Holds n m (at + 1) a (equalizer s w h))
-    (t : StageIs s n m x w h u r) (e : nx ≡ advance (with_track s r.track)) where
-  did-is : did (record { state = nx; out = r.out; mark = r.mark }) (sample_def (equalizer s w h) x).equalizer.weights (sample_def (equalizer s w h) x).equalizer.window ≡ sample_def (equalizer s w h) x
+module _ (s : EqualizeState) (w h : List Float) (n m at : ℕ) (a : Arrays) (x : C32) (r : Stage) (u : Update) (k : Holds n m (at + 1) a (equalizer s w h))
+    (t : StageIs s n m x w h u r) where
+  did-is : did (sampled_of s r) (sample_def (equalizer s w h) x).equalizer.weights (sample_def (equalizer s w h) x).equalizer.window ≡ sample_def (equalizer s w h) x
   did-is =
       let b = sample_by_lem k x in
-      let v : nx ≡ (sample_def (equalizer s w h) x).equalizer.state = e ∙ ap (λ (k : sample.Stage). advance k.state) t ∙ sym (by_state n m s w h x) ∙ sym (ap (λ (d : Did). d.equalizer.state) b) in
+      let v : advance (with_track s r.track) ≡ (sample_def (equalizer s w h) x).equalizer.state = ap (λ (k : sample.Stage). advance k.state) t ∙ sym (by_state n m s w h x) ∙ sym (ap (λ (d : Did). d.equalizer.state) b) in
       let o = sym (by_out n m s w h x) ∙ sym (ap (λ (d : Did). d.out) b) in
       let z : r.out ≡ (sample_def (equalizer s w h) x).out.symbol = ap (λ (k : sample.Stage). k.out) t ∙ ap (λ (d : Out). d.symbol) o in
       let y : r.mark ≡ (sample_def (equalizer s w h) x).out.mark = ap (λ (k : sample.Stage). k.mark) t ∙ ap (λ (d : Out). d.mark) o in
@@ -144,28 +138,27 @@ module _ (s : EqualizeState) (w h : List Float) (n m at : ℕ) (a : Arrays) (x :
         out = record { symbol = z j; mark = y j };
       }
 
-pub sampled : (s : EqualizeState) (g : Shape) (at : ℕ) (x : C32) (F ahead : Float) (limit wr wi xr xi sq wr' wi' xr' xi' sq' : List Float) (r : Stage) (k nx : EqualizeState)
+pub sampled_is : (s : EqualizeState) (g : Shape) (at : ℕ) (x : C32) (F ahead : Float) (limit wr wi xr xi sq wr' wi' xr' xi' sq' : List Float) (r : Stage) (k : Sampled)
     → at ≤ 63 → rule_r4 s ≡ true → Takes s g at x F ahead limit (arrays wr wi xr xi sq) wr' wi' r
     → xr' ≡ set xr (at + 152) r.fed.re → xi' ≡ set xi (at + 152) r.fed.im → sq' ≡ set sq (at + 152) (norm r.fed)
-    → k ≡ with_track s r.track → nx ≡ advance k
-    → Samples s g at x F ahead limit (arrays wr wi xr xi sq) (arrays wr' wi' xr' xi' sq') (record { state = nx; out = r.out; mark = r.mark })
-sampled s g at x F ahead limit wr wi xr xi sq wr' wi' xr' xi' sq' r k nx low r4 t er ei eq ek en =
+    → k ≡ sampled_of s r → Samples s g at x F ahead limit (arrays wr wi xr xi sq) (arrays wr' wi' xr' xi' sq') k
+sampled_is s g at x F ahead limit wr wi xr xi sq wr' wi' xr' xi' sq' r k low r4 t er ei eq e =
     let a = arrays wr wi xr xi sq in
     let a' = arrays wr' wi' xr' xi' sq' in
     let ab = absorbed t.update r.fed at g.quads g.mquads g.front g.centre limit wr wi xr xi sq wr' wi' xr' xi' sq' low t.adapts er ei eq in
-    let e : nx ≡ advance (with_track s r.track) = en ∙ ap advance ek in
-    record {
+    rw e
+    (record {
       front = record {
         re = λ i b. rw er (get_or-set_other xr (at + 152) i r.fed.re nan (λ (z : i ≡ at + 152). omega arith));
         im = λ i b. rw ei (get_or-set_other xi (at + 152) i r.fed.im nan (λ (z : i ≡ at + 152). omega arith));
       };
-      counts = rw en (advanced_r4 k (track_r4 s k r.track r4 ek));
+      counts = advanced_r4 (with_track s r.track) (unfold rule_r4 in r4);
       track = r.track;
-      ticks = e ∙ ticks_is s r.track;
+      ticks = ticks_is s r.track;
       done = λ n w h ok f.
           let q = equalizer s w h in
           let tk = t.stage_is n w h f in
-          let is = did-is s w h n g.m at a x r t.update nx f.holds tk e in
+          let is = did-is s w h n g.m at a x r t.update f.holds tk in
           let hd = sample_holds n g.m at g.lanes g.more g.quads g.mquads g.front g.centre limit a a' q x t.update r.fed (accepted_parts q (subst T (sym ok) tt))
           f.setting.shaped f.setting.front_is f.setting.middle f.setting.limits f.setting.limits' f.holds f.put
           (unfold stage_of in (sym (ap (λ (k : sample.Stage). k.weights) tk))) (unfold stage_of in (sym (ap (λ (k : sample.Stage). k.fed) tk))) ab in
@@ -175,4 +168,4 @@ sampled s g at x F ahead limit wr wi xr xi sq wr' wi' xr' xi' sq' r k nx low r4 
             is = is;
             holds = subst (λ (d : Did). Holds n g.m at a' d.equalizer) (sym is) hd;
           };
-    }
+    })

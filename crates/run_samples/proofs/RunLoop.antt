@@ -7,6 +7,7 @@ use native.Mathlib.Omega.{arith}
 use native.Mathlib.Decide.{dec_lt}
 use lib.ListN.{length, get_or, set, length-set}
 use lib.Ieee.{Float, nan}
+use Rattle.types.specs.declared.C32.{C32}
 use Rattle.types.specs.declared.EqualizeState.{EqualizeState}
 use Rattle.types.specs.Numbers.{mark_number}
 use Rattle.definition.specs.Floats.{complex}
@@ -26,7 +27,7 @@ use Rattle.steps.specs.declared.Sampled.{Sampled}
 use Rattle.run_samples.specs.Sample.{Front, Before, Samples}
 use Rattle.steps.specs.Step.{with_track, did}
 use Rattle.run_samples.specs.Run.{RunReady, Runs}
-use Rattle.record_mode.proofs.Counts.{count-below}
+use Rattle.record_mode.proofs.Counts.{count_below}
 use Rattle.definition_laws.proofs.Progress.{Progress, progress_none, progress-more, progress-all}
 
 -- after k samples from q₀: weights and window, how far the block has come, what the arrays hold, and the mode
@@ -37,19 +38,17 @@ pub record Reached (n m : ℕ) (s₀ : EqualizeState) (q₀ : Equalizer) (xs : L
   pub holds : Holds n m (64 - k) a (equalizer s weights window)
   pub clock : k ≤ 63 → Clock s₀ k s
 
-pub record RunLoop (s₀ : EqualizeState) (g : Shape) (limit : List Float) (a₀ : Arrays) (ps ss xs ys₀ : List Float) (ms₀ : List ℕ) (a : Arrays) (ys : List Float) (ms : List ℕ) (s : EqualizeState) (k : ℕ) : Type 0 where
+pub record RunLoop (s₀ : EqualizeState) (g : Shape) (limit : List Float) (a₀ : Arrays) (ps ss xs : List Float) (a : Arrays) (ys : List Float) (ms : List ℕ) (s : EqualizeState) (k : ℕ) : Type 0 where
   pub front : Front a₀ a
   pub counts : rule_r4 s ≡ true
   pub here : k ≤ length ms
   pub most : length ms ≤ 64
   pub input : length xs ≡ 2 * length ms
   pub output : length ys ≡ 2 * length ms
-  pub long_ys : length ys ≡ length ys₀
-  pub long_ms : length ms ≡ length ms₀
   pub reached : (n : ℕ) (w h : List Float) → accepted_def (equalizer s₀ w h) ≡ true → RunReady s₀ g n limit a₀ ps ss xs w h → Reached n g.m s₀ (equalizer s₀ w h) xs a ys ms s k
 
 pub loop_none : (s : EqualizeState) (g : Shape) (limit : List Float) (a : Arrays) (ps ss xs ys : List Float) (ms : List ℕ) → rule_r4 s ≡ true
-    → length ms ≤ 64 → length xs ≡ 2 * length ms → length ys ≡ 2 * length ms → RunLoop s g limit a ps ss xs ys ms a ys ms s 0
+    → length ms ≤ 64 → length xs ≡ 2 * length ms → length ys ≡ 2 * length ms → RunLoop s g limit a ps ss xs a ys ms s 0
 loop_none s g limit a ps ss xs ys ms c t i o = record {
   front = record { re = λ i b. refl; im = λ i b. refl };
   counts = c;
@@ -57,14 +56,12 @@ loop_none s g limit a ps ss xs ys ms c t i o = record {
   most = t;
   input = i;
   output = o;
-  long_ys = refl;
-  long_ms = refl;
   reached = λ n w h ok b. record {
     weights = w;
     window = h;
     done = progress_none (equalizer s w h) xs ys ms ok;
     holds = b.holds;
-    clock = λ z. clock_none s (λ e f. count-below s e f c);
+    clock = λ z. clock_none s (λ e f. count_below s e f c);
   };
 }
 
@@ -83,8 +80,7 @@ ticked s₀ s r t k e c l =
     clock_next s₀ s r k c l (ap (λ (z : EqualizeState). z.mode) e) (ap (λ (z : EqualizeState). z.count) e)
     (ap (λ (z : EqualizeState). z.params) e ∙ ap (λ (z : EqualizeState). z.params) (advance_keeps s))
 
-module _ (s₀ : EqualizeState) (g : Shape) (limit : List Float) (a₀ : Arrays) (ps ss xs ys₀ : List Float) (ms₀ : List ℕ) (a : Arrays) (ys : List Float) (ms : List ℕ) (s : EqualizeState) (k : ℕ)
-    (o : RunLoop s₀ g limit a₀ ps ss xs ys₀ ms₀ a ys ms s k) where
+module _ (s₀ : EqualizeState) (g : Shape) (limit : List Float) (a₀ : Arrays) (ps ss xs : List Float) (a : Arrays) (ys : List Float) (ms : List ℕ) (s : EqualizeState) (k : ℕ) (o : RunLoop s₀ g limit a₀ ps ss xs a ys ms s k) where
   -- the forward window as it was when the powers were made
   lies-front : (n at : ℕ) (l : List Float) → at ≤ 63 → n ≤ 63 → Lies a.xr a.xi at l 0 n → Lies a₀.xr a₀.xi at l 0 n
   lies-front n at l b c y = record { re_is = λ j h. sym (o.front.re (at + j) (omega arith)) ∙ y.re_is j h; im_is = λ j h. sym (o.front.im (at + j) (omega arith)) ∙ y.im_is j h }
@@ -106,34 +102,33 @@ module _ (s₀ : EqualizeState) (g : Shape) (limit : List Float) (a₀ : Arrays)
         size_is = λ u. size_at s₀ s ps ss (64 - length xs / 2) k b.sizes (z.clock (omega (arith, o.most))) (omega (arith, o.most)) (omega (arith, o.input, o.most)) (dec_lt k (cma_left s₀));
       }
 
-  pub loop-more : (r : Sampled) (b : ℕ) (a' : Arrays) → k < length ms → b ≡ mark_number r.mark
-      → Samples s g (63 - k) (complex (re_at xs k) (im_at xs k)) (get_or ps (63 - k) nan) (get_or ss (63 - k) nan) limit a a' r
-      → RunLoop s₀ g limit a₀ ps ss xs ys₀ ms₀ a' (set (set ys (2 * k) r.out.re) (2 * k + 1) r.out.im) (set ms k b) r.state (k + 1)
-  loop-more r b a' l v p = record {
+  pub loop_more : (x : C32) (r : Sampled) (b : ℕ) (a' : Arrays) (ys' : List Float) → k < length ms → x.re ≡ re_at xs k → x.im ≡ im_at xs k → b ≡ mark_number r.mark
+      → Samples s g (63 - k) x (get_or ps (63 - k) nan) (get_or ss (63 - k) nan) limit a a' r → ys' ≡ set (set ys (2 * k) r.out.re) (2 * k + 1) r.out.im
+      → RunLoop s₀ g limit a₀ ps ss xs a' ys' (set ms k b) r.state (k + 1)
+  loop_more x r b a' ys' l xr xi v p e = record {
     front = record { re = λ i b. p.front.re i b ∙ o.front.re i b; im = λ i b. p.front.im i b ∙ o.front.im i b };
     counts = p.counts;
     here = simp length-set (omega arith);
     most = simp length-set o.most;
     input = simp length-set o.input;
-    output = simp length-set o.output;
-    long_ys = simp length-set o.long_ys;
-    long_ms = simp length-set o.long_ms;
+    output = rw e (simp length-set o.output);
     reached = λ n w h ok u.
         let z = o.reached n w h ok u in
-        let d = p.done n z.weights z.window z.done.accepted (before-sample n w h u z l) in
-        let e : 64 - (k + 1) ≡ 63 - k = omega arith in
+        let X : x ≡ complex (re_at xs k) (im_at xs k) = λ i. record { re = xr i; im = xi i } in
+        let d = p.done n z.weights z.window z.done.accepted (rw X (before-sample n w h u z l)) in
+        let f : 64 - (k + 1) ≡ 63 - k = omega arith in
         let t : 2 * (k + 1) ≡ 2 * k + 2 = omega arith in
         record {
           weights = d.weights;
           window = d.window;
-          done = rw t (progress-more (equalizer s₀ w h) xs (equalizer s z.weights z.window) ys ms k (2 * k) z.done (complex (re_at xs k) (im_at xs k)) (did r d.weights d.window) b l (omega (arith, o.output)) (omega (arith, o.input)) refl d.is v);
-          holds = rw e d.holds;
+          done = rw (e, t) (progress-more (equalizer s₀ w h) xs (equalizer s z.weights z.window) ys ms k (2 * k) z.done x (did r d.weights d.window) b l (omega (arith, o.output)) (omega (arith, o.input)) X d.is v);
+          holds = rw f d.holds;
           clock = λ y. ticked s₀ s r.state p.track k p.ticks (z.clock (omega arith)) y;
         };
   }
 
-  pub loop-all : length ms ≤ k → Runs s₀ g limit a₀ ps ss xs a ys ms s
-  loop-all l = record {
+  pub loop_all : length ms ≤ k → Runs s₀ g limit a₀ ps ss xs a ys ms s
+  loop_all l = record {
     counts = o.counts;
     input = o.input;
     after = λ n w h ok b.

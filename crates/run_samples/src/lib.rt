@@ -30,9 +30,10 @@ fn step_size(s: EqualizeState, m: usize, ahead: f32, power: f32) -> f32
     ensures { result ≡ size_of s m ahead power }
 {
     if m == 0 {
-        return ahead;
+        ahead
+    } else {
+        steps::size_of(s, power)
     }
-    steps::size_of(s, power)
 }
 
 // A sample that stands at `at` in the forward window: what came, the power of that window, and its step size without feedback, both made ahead.
@@ -59,7 +60,8 @@ fn hear(s: EqualizeState, call: &Call, e: Entry, f: Measured, w: &mut Weights, h
     Stage::from(r)
 }
 
-// Steps 2 to 7 of a sample.
+// Steps 2 to 7 of a sample. The two tests stand in `plain` too: shared, by a `?` on the mark or with the sum as a closure, they would be longer.
+#[tactic(auto, using(crate::proofs::OneSample::take_blank, crate::proofs::OneSample::take_spilled, crate::proofs::OneSample::take_heard))]
 fn take(s: EqualizeState, call: &Call, e: Entry, w: &mut Weights, h: &Window) -> Stage
     ensures { Takes s call.now.shape e.at e.x e.forward e.ahead call.now.limit (arrays_of w.old h.now) w.new.re w.new.im result }
 {
@@ -80,12 +82,7 @@ fn sample(s: EqualizeState, call: &Call, e: Entry, w: &mut Weights, h: &mut Wind
 {
     let r = take(s, call, e, w, h);
     lanes_sample::feed(h, e.at + Window::BACK, r.fed);
-    let state = record_mode::advance(r.track.on(s));
-    Sampled {
-        state,
-        out: r.out,
-        mark: r.mark,
-    }
+    r.sampled(s)
 }
 
 // The samples of a run, at most RUN, which stand in the forward window, the first at RUN - 1. By an index: it is the sample's place in five arrays.

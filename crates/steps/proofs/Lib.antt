@@ -1,3 +1,2 @@
 -- Laws of steps 4 to 7 that belong to no one function.
 pub mod Exits
-pub mod Kept

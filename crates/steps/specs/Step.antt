@@ -14,7 +14,7 @@ use Rattle.definition.specs.Phase.{cos_sin}
 use Rattle.definition.specs.Points.{decide}
 use Rattle.definition.specs.Turns.{derotated}
 use Rattle.definition.specs.Packed.{equalizer}
-use Rattle.definition.specs.Sample.{Did, with_running, mse_after, error_of, fed_of, live, phase_error, freq_after, phase_after}
+use Rattle.definition.specs.Sample.{Did, with_running, mse_after, error_of, fed_of, live, phase_error, freq_after, phase_after, advance}
 use Rattle.definition.specs.Sample as sample
 use Rattle.steps.specs.declared.Track.{Track}
 use Rattle.steps.specs.declared.Aim.{Aim}
@@ -69,6 +69,10 @@ unheard_of s mark = record { track = record { mse = s.mse; freq = s.freq; phase 
 -- from the record s, beside the weights w
 abbrev pub stage : EqualizeState → Stage → List Float → sample.Stage
 stage s r w = record { state = with_track s r.track; weights = w; out = r.out; fed = r.fed; mark = r.mark }
+
+-- what a sample with the stage r gives of the record s, which steps 4 to 7 and then step 8 move on
+abbrev pub sampled_of : EqualizeState → Stage → Sampled
+sampled_of s r = record { state = advance (with_track s r.track); out = r.out; mark = r.mark }
 
 -- beside weights w and window h
 abbrev pub did : Sampled → List Float → List Float → Did

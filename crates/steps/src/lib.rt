@@ -1,12 +1,13 @@
-// One sample after its filter sum: tracker, decision, error, update.
+// One sample after its filter sum: tracker, decision, error, update, and what the sample gives.
 #![tactic(auto)]
 
-ghost use Rattle.std.specs.Prelude.{◌≡◌, ◌+◌, ◌%◌, ◌^◌, if◌then◌else◌};
+ghost use Rattle.std.specs.Prelude.{◌≡◌, true, ◌+◌, ◌%◌, ◌^◌, if◌then◌else◌};
 ghost use Rattle.types.specs.Bits.{one32};
 ghost use Rattle.definition.specs.Floats.{norm, zero_c, scaled_c, clip_c};
 ghost use Rattle.definition.specs.Phase.{phase_step};
 ghost use Rattle.definition.specs.Sample.{mse_after, godard_error, phase_error, mu_of, step_size};
-ghost use Rattle.steps.specs.Step.{track_of, aimed, update_if, step_with, step_of, running_of, with_track, heard_of, unheard_of};
+ghost use Rattle.definition.specs.Rules.{rule_r4};
+ghost use Rattle.steps.specs.Step.{track_of, aimed, update_if, step_with, step_of, running_of, with_track, heard_of, unheard_of, sampled_of};
 
 use types::{C32, CosSin, EqMode, EqualizeState, Mark, Update};
 
@@ -110,6 +111,19 @@ impl Stage {
             out: zero,
             fed: zero,
             mark,
+        }
+    }
+
+    // What a sample with this stage gives, and the record s after it.
+    #[tactic(auto, unfolding(definition::specs::Rules::rule_r4))]
+    pub fn sampled(self, s: EqualizeState) -> Sampled
+        requires { rule_r4 s ≡ true }
+        ensures { result ≡ sampled_of s self }
+    {
+        Sampled {
+            state: record_mode::advance(self.track.on(s)),
+            out: self.out,
+            mark: self.mark,
         }
     }
 }
