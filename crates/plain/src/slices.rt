@@ -20,18 +20,16 @@ pub(crate) fn shift(x: &mut [f32], n: usize, v: C32)
     }
 }
 
-// The power of the first n numbers, summed in their order, where `first` is the sum of the first `from`. By their places: pairs from `as_chunks` would be made
-// into complex numbers again, which `at` reads.
-#[tactic(auto, using(definition_laws::proofs::Mapped::power_more))]
+// The power of the first n numbers, summed in their order, where `first` is the sum of the first `from`.
 pub(crate) fn window_power(x: &[f32], from: usize, first: f32, n: usize) -> f32
     requires { (2 * n ≤ length x.now) × ((from ≤ n) × (first ≡ powerDef x.now from)) }
     ensures { result ≡ powerDef x.now n }
 {
-    let mut sum = first;
-    for i in from..n {
-        sum += complex::norm(complex::at(x, i));
-    }
-    sum
+    let (pairs, _) = x.as_chunks::<2>();
+    pairs[from..n].iter().fold(
+        first,
+        |sum, [re, im]| sum + complex::norm(C32 { re: *re, im: *im }),
+    )
 }
 
 // One weight of the update: w - g conj(x), flushed by parts.
