@@ -1,6 +1,6 @@
 -- Blocks of eight products added to eight partials. Assumes nothing.
 use Prim.Native.Nat.{ℕ, suc, ◌+◌, ◌*◌, ◌/◌, ◌%◌, ◌<◌}
-use mathlib.Core.Path.{◌≡◌, refl, ◌∙◌, ap}
+use mathlib.Core.Path.{◌≡◌, refl, ◌∙◌}
 use mathlib.Core.List.{List}
 use native.Mathlib.Omega.{arith}
 use lib.ListN.{length, get_or, replicate, get_or-replicate}
@@ -9,6 +9,10 @@ use Rattle.types.specs.Bits.{zero32}
 use Rattle.definition.specs.Slices.{tree}
 use Rattle.lanes_filter.specs.Split.{lane_from, Onto, sum_two}
 use Rattle.dot.specs.Added.{Added}
+
+-- a sum of eight partials by each of them
+pub tree_cong : (a b : ℕ → Float) → ((k : ℕ) → k < 8 → a k ≡ b k) → tree a ≡ tree b
+tree_cong a b s = rw (s 0 (omega arith), s 1 (omega arith), s 2 (omega arith), s 3 (omega arith), s 4 (omega arith), s 5 (omega arith), s 6 (omega arith), s 7 (omega arith))
 
 pub onto_none : (p : ℕ → Float) (l : List Float) → length l ≡ 8 → Onto p 0 l l
 unfolding lane_from
@@ -28,9 +32,7 @@ pub onto_tree : (p : ℕ → Float) (n : ℕ) (q : ℕ → Float) (m : ℕ) {l l
     → tree (λ k. get_or l' k nan) ≡ sum_two p n q m
 unfolding sum_two
 onto_tree p n q m {l} {l'} a b =
-    let at : (k : ℕ) → k < 8 → get_or l' k nan ≡ lane_from (lane_from zero32 p k (n / 8)) q k (m / 8) =
-    λ k h. b.sums k h ∙ ap (λ (x : Float). lane_from x q k (m / 8)) (a.sums k h ∙ ap (λ (x : Float). lane_from x p k (n / 8)) (get_or-replicate 8 k zero32 nan h)) in
-    rw (at 0 (omega arith), at 1 (omega arith), at 2 (omega arith), at 3 (omega arith), at 4 (omega arith), at 5 (omega arith), at 6 (omega arith), at 7 (omega arith))
+    tree_cong (λ k. get_or l' k nan) (λ k. lane_from (lane_from zero32 p k (n / 8)) q k (m / 8)) (λ k h. rw (b.sums k h, a.sums k h, get_or-replicate 8 k zero32 nan h))
 
 -- the next block of eight
 pub onto_block : (p : ℕ → Float) (b : ℕ) {l₀ l l' : List Float} → Onto p (8 * b) l₀ l → Added p (8 * b) 8 l l' → Onto p (8 * (b + 1)) l₀ l'

@@ -2,7 +2,8 @@
 -- P: the forward products, n of them, then zeros to N. Q: n % 8 zeros, m products, then zeros to M. Assumes nothing.
 use Prim.Native.Nat.{ℕ, zero, suc, ◌+◌, ◌-◌, ◌*◌, ◌/◌, ◌%◌, ◌<◌, ◌≤◌}
 use mathlib.Core.Path.{◌≡◌, refl, sym, ◌∙◌, ap}
-use mathlib.Core.Bool.{Bool, true, false, cond}
+use mathlib.Core.Bool.{cond}
+use Rattle.std.proofs.lemmas.Bool.{cond_both}
 use native.Mathlib.Omega.{arith}
 use native.Mathlib.Decide.{dec_lt}
 use native.Mathlib.Nat.{add-zero, add-suc}
@@ -15,6 +16,7 @@ use Rattle.definition.specs.Floats.{◌+f◌}
 use Rattle.definition.specs.Slices.{lane, lane_count, sum8}
 use Rattle.definition_laws.proofs.Padding.{Zero, lane-fits, lane-not-neg, lane-same}
 use Rattle.lanes_filter.specs.Split.{lane_from, sum_two}
+use Rattle.lanes_filter.proofs.Blocks.{tree_cong}
 
 pub record Halves (P Q p : ℕ → Float) (n N m M : ℕ) : Type 0 where
   pub forth : (i : ℕ) → i < n → P i ≡ p i
@@ -40,12 +42,10 @@ unfolding lane
 lane_cong p q k zero h = refl
 lane_cong p q k (suc b) h = rw (lane_cong p q k b (λ i l. h i (omega arith)), h b (omega arith))
 
-pub sum_cong : (p q : ℕ → Float) (n : ℕ) → ((i : ℕ) → i < n → p i ≡ q i) → sum8 p n ≡ sum8 q n
+sum_cong : (p q : ℕ → Float) (n : ℕ) → ((i : ℕ) → i < n → p i ≡ q i) → sum8 p n ≡ sum8 q n
 unfolding sum8
 sum_cong p q n h =
-    let s : (k : ℕ) → k < 8 → lane p k (lane_count n k) ≡ lane q k (lane_count n k) =
-    λ k l. lane_cong p q k (lane_count n k) (λ i b. h (8 * i + k) (omega arith)) in
-    rw (s 0 (omega arith), s 1 (omega arith), s 2 (omega arith), s 3 (omega arith), s 4 (omega arith), s 5 (omega arith), s 6 (omega arith), s 7 (omega arith))
+    tree_cong (λ k. lane p k (lane_count n k)) (λ k. lane q k (lane_count n k)) (λ k l. lane_cong p q k (lane_count n k) (λ i b. h (8 * i + k) (omega arith)))
 
 -- the forward lanes
 forth_lane : (P p : ℕ → Float) (n N k : ℕ) → ((i : ℕ) → T (fits binary32 (P i))) → k < 8 → n ≤ N → N % 8 ≡ 0
@@ -86,14 +86,10 @@ joined_back : (P Q : ℕ → Float) (n i : ℕ) → n ≤ i → joined P Q n i �
 unfolding joined
 joined_back P Q n i h = rw (le-ltb i n h)
 
-pick_fits : (b : Bool) (x y : Float) → T (fits binary32 x) → T (fits binary32 y) → T (fits binary32 (cond b x y))
-pick_fits true x y a b = a
-pick_fits false x y a b = b
-
 module _ (P Q p : ℕ → Float) (n N m M : ℕ) (h : Halves P Q p n N m M) where
   joined-fits : (i : ℕ) → T (fits binary32 (joined P Q n i))
   unfolding joined
-  joined-fits i = pick_fits (ltb i n) (P i) (Q (i - 8 * (n / 8))) (h.fit_forth i) (h.fit_back (i - 8 * (n / 8)))
+  joined-fits i = cond_both (ltb i n) (P i) (Q (i - 8 * (n / 8))) (λ x. T (fits binary32 x)) (λ e. h.fit_forth i) (λ e. h.fit_back (i - 8 * (n / 8)))
 
   joined-zero : (i : ℕ) → 0 < M → n + m ≤ i → i < 8 * (n / 8) + M → Zero (joined P Q n i)
   joined-zero i g a b = rw (joined_back P Q n i (omega arith)) (h.late (i - 8 * (n / 8)) (omega arith) (omega arith))
@@ -151,10 +147,9 @@ module _ (P Q p : ℕ → Float) (n N m M : ℕ) (h : Halves P Q p n N m M) wher
   pub halves-sum : sum_two P N Q M ≡ sum8 p (n + m)
   unfolding sum_two sum8
   halves-sum =
-      let s : (k : ℕ) → k < 8 → lane_from (lane_from zero32 P k (N / 8)) Q k (M / 8) ≡ lane (joined P Q n) k (lane_count (n + m) k) =
-      λ k l.
+      tree_cong (λ k. lane_from (lane_from zero32 P k (N / 8)) Q k (M / 8)) (λ k. lane (joined P Q n) k (lane_count (n + m) k))
+      (λ k l.
       ap (λ (x : Float). lane_from x Q k (M / 8))
       (forth_lane P (joined P Q n) n N k h.fit_forth l h.wide h.blocks h.padded (λ i b. sym (joined_forth P Q n i b)))
-      ∙ back-lane k l (dec_lt 0 M) in
-      rw (s 0 (omega arith), s 1 (omega arith), s 2 (omega arith), s 3 (omega arith), s 4 (omega arith), s 5 (omega arith), s 6 (omega arith), s 7 (omega arith))
-      (sum_cong (joined P Q n) p (n + m) (λ i l. joined_is i l (dec_lt i n)))
+      ∙ back-lane k l (dec_lt 0 M))
+      ∙ sum_cong (joined P Q n) p (n + m) (λ i l. joined_is i l (dec_lt i n))

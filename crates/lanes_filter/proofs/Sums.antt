@@ -9,10 +9,10 @@ use lib.Ieee.{Float, nan, binary32, fits}
 use lib.Ieee.Fits.{add-fits, sub-fits}
 use lib.Ieee.Scale.{finite}
 use Rattle.types.specs.Bits.{zero32}
-use Rattle.definition.specs.Slices.{prod_re, prod_im, sum8}
+use Rattle.definition.specs.Slices.{sum8}
 use Rattle.definition_laws.proofs.Padding.{Zero, times_zero, zero_minus, zero_plus}
 use Rattle.dot.specs.Parts.{product_re, product_im, product_at}
-use Rattle.lanes_filter.specs.Split.{split_at, split_re, split_im, sum_two}
+use Rattle.lanes_filter.specs.Split.{split_at, sum_two}
 use Rattle.lanes.specs.Holds.{Lies, Unused, Calm, Weights, Window, LaneCounts}
 use Rattle.lanes_filter.proofs.Halves.{Halves, halves-sum}
 
@@ -21,8 +21,8 @@ pub record Summed (p : Float → Float → Float → Float → Float) : Type 0 w
   pub none : (x y c d : Float) → T (finite x) → T (finite y) → c ≡ zero32 → d ≡ zero32 → Zero (p x y c d)
   pub fit : (x y c d : Float) → T (fits binary32 (p x y c d))
 
-summed-re : Summed product_re
-summed-re = record {
+pub summed_re : Summed product_re
+summed_re = record {
   none = λ x y c d a b e f.
       let u = times_zero x a in
       let v = times_zero y b in
@@ -30,8 +30,8 @@ summed-re = record {
   fit = λ x y c d. sub-fits binary32 _ _;
 }
 
-summed-im : Summed product_im
-summed-im = record {
+pub summed_im : Summed product_im
+summed_im = record {
   none = λ x y c d a b e f.
       let u = times_zero x a in
       let v = times_zero y b in
@@ -77,10 +77,7 @@ module _ (p : Float → Float → Float → Float → Float) (r : Summed p) wher
         back_wide = s.more_wide;
       }
 
-module _ (n m lanes more quads mquads at : ℕ) (wr wi xr xi w h : List Float)
-    (s : LaneCounts n m lanes more quads mquads) (k : Weights n m wr wi w) (q : Window n m at xr xi h) (low : at ≤ 63) where
-  pub sum-re-is : sum_two (split_re xr xi wr wi at 0) lanes (split_re xr xi wr wi (at + 153 - n % 8) 72) more ≡ sum8 (prod_re h w) (n + m)
-  sum-re-is = halves-sum _ _ _ n lanes m more (halves product_re summed-re n m lanes more quads mquads at wr wi xr xi w h s k q low)
-
-  pub sum-im-is : sum_two (split_im xr xi wr wi at 0) lanes (split_im xr xi wr wi (at + 153 - n % 8) 72) more ≡ sum8 (prod_im h w) (n + m)
-  sum-im-is = halves-sum _ _ _ n lanes m more (halves product_im summed-im n m lanes more quads mquads at wr wi xr xi w h s k q low)
+  pub sum_is : (n m lanes more quads mquads at : ℕ) (wr wi xr xi w h : List Float)
+      → LaneCounts n m lanes more quads mquads → Weights n m wr wi w → Window n m at xr xi h → at ≤ 63
+      → sum_two (split_at p xr xi wr wi at 0) lanes (split_at p xr xi wr wi (at + 153 - n % 8) 72) more ≡ sum8 (product_at p h w) (n + m)
+  sum_is n m lanes more quads mquads at wr wi xr xi w h s k q low = halves-sum _ _ _ n lanes m more (halves n m lanes more quads mquads at wr wi xr xi w h s k q low)

@@ -1,7 +1,7 @@
 -- The exits of `cma_left` and `sizes`, and the modes of a run. Assumes nothing.
 use Prim.Native.Nat.{ℕ, ◌+◌, ◌-◌, ◌<◌, ◌≤◌, min}
 use mathlib.Core.Path.{◌≡◌, refl, sym, ◌∙◌}
-use mathlib.Core.Bool.{Bool, true, false, cond}
+use Rattle.std.proofs.lemmas.Bool.{cond_both}
 use native.Mathlib.Omega.{arith}
 use native.Mathlib.Decide.{ℕ_discrete, dec_lt}
 use borrow.Author.Tests.{eq-eqb, ne_eqb, le-ltb, lt-ltb}
@@ -24,11 +24,7 @@ module _ (m : EqMode) (total count : ℕ) where
 pub left_most : (m : EqMode) (total count : ℕ) → left_in m total count ≤ 64
 unfolding left_in
 left_most Decision total count = omega arith
-left_most Cma total count = go (eqb total never_switch)
-  where
-    go : (b : Bool) → cond b 64 (min 64 (total - count)) ≤ 64
-    go true = omega arith
-    go false = omega arith
+left_most Cma total count = cond_both (eqb total never_switch) 64 (min 64 (total - count)) (λ n. n ≤ 64) (λ e. omega arith) (λ e. omega arith)
 
 -- ---- the modes of a run
 left_cma : (s : EqualizeState) → (s.params.cma_symbols ≡ never_switch → ⊥) → s.mode ≡ Cma → cma_left s ≡ min 64 (s.params.cma_symbols - s.count)

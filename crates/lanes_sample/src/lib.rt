@@ -27,6 +27,7 @@ fn chain(q: &[f32; PLACES], from: usize, count: usize, forward: f32) -> f32
 }
 
 // The sum and the power of the window at `at`: the power's chain in two parts, each beside a sum.
+#[tactic(auto, using(crate::proofs::Measurement::measured))]
 pub fn measure(g: Shape, at: usize, w: &Weights, h: &Window, forward: f32) -> Measured
     requires { at ≤ 63 }
     ensures { Measures g.m g.lanes g.more g.front at (arrays_of w.now h.now) forward result.y result.power }
