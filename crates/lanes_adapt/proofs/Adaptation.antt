@@ -36,10 +36,6 @@ pub adapt_hold : (u : Update) (wr wi limit xr xi : List Float) (at lanes bt more
 unfolding adapted reset_unless
 adapt_hold u wr wi limit xr xi at lanes bt more centre e = record { holds = λ n m w h r. rw e r.weights }
 
-wide_back : (n m more : ℕ) → (more ≡ 0 → m ≡ 0) → (0 < more → n % 8 + m ≤ more) → 0 < m → Dec (0 < more) → n % 8 + m ≤ more
-wide_back n m more a b h (yes q) = b q
-wide_back n m more a b h (no q) = let z : more ≡ 0 = omega arith in let y = a z in absurd (omega arith)
-
 -- ---- the start weights, in lanes as in a slice all +0 but 1 in one place
 one_at : (n c k n' c' k' : ℕ) → c < n → c' < n' → k < n → k' < n' → (k ≡ c → k' ≡ c') → (k' ≡ c' → k ≡ c) → Dec (k ≡ c)
     → get_or (set (replicate n zero32) c one32) k nan ≡ get_or (set (replicate n' zero32) c' one32) k' nan
@@ -91,16 +87,13 @@ module _ (wr wi limit xr xi : List Float) (at lanes bt more centre : ℕ) (gr gi
     back_lies : Lies xr xi (bt + n % 8) h n m
     back_lies = rw r.early r.window.back
 
-    back_reach : 0 < m → n % 8 + m ≤ more
-    back_reach q = wide_back n m more r.none r.wide' q (dec_lt 0 more)
-
     forth : Stepped vr vi 0 0 new 0 n (any_of lanes (λ i. uneven (step_re wr limit xr xi at 0 gr gi i) (step_im wi limit xr xi at 0 gr gi i)))
     forth = half_step wr wi limit xr xi w h at 0 0 0 n lanes (n + m) gr gi vr vi r.weights.forth lies r.limits (λ q. omega (arith, r.wide)) (omega arith) mr mi
 
     back : Stepped wr' wi' 72 (n % 8) new n m (any_of more (λ i. uneven (step_re vr limit xr xi bt 72 gr gi i) (step_im vi limit xr xi bt 72 gr gi i)))
     back =
         let half = half_kept 72 (n % 8) n m mr.long mi.long (λ i l. mr.high (72 + i) (omega (arith, r.fit))) (λ i l. mi.high (72 + i) (omega (arith, r.fit))) r.weights.back in
-        half_step vr vi limit xr xi w h bt 72 (n % 8) n m more (n + m) gr gi wr' wi' half back_lies r.limits' (λ q. wide_back n m more r.none r.wide' q (dec_lt 0 more)) (omega arith) br bi
+        half_step vr vi limit xr xi w h bt 72 (n % 8) n m more (n + m) gr gi wr' wi' half back_lies r.limits' (λ q. grind (arith, r.none, r.wide')) (omega arith) br bi
 
     -- no flag
     calm_weights : any_of lanes (λ i. uneven (step_re wr limit xr xi at 0 gr gi i) (step_im wi limit xr xi at 0 gr gi i)) ≡ false

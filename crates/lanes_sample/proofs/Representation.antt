@@ -37,14 +37,15 @@ unfolding step1
 window_is n m at a q x s g = window_in n m at a.xr a.xi q.window (sanitized x) s.past g.re g.im
 
 -- the squares of the feedback part are those of the new window
-pub squares_is : (n m at : ℕ) (xr xi q x h : List Float) → Past n m (at + 1) xr xi x → Squares q (at + 1 + 152) x n m → Window n m at xr xi h → Squares q (at + 153) h n m
-squares_is n m at xr xi q x h a s w =
+pub squares_in : (n m at : ℕ) (a : Arrays) (q : Equalizer) (x : C32) → Holds n m (at + 1) a q → Put at x a.xr a.xi → Squares a.q (at + 153) (step1 n x q.window) n m
+squares_in n m at a q x s g =
+    let w = window_is n m at a q x s g in
     let p : at + 153 ≡ at + 1 + 152 = omega arith in
     record {
       is = λ j l.
-          let er : re_at x (n + j) ≡ re_at h (n + j) = sym (a.back.re_is j l) ∙ (rw p at (w.back.re_is j l)) in
-          let ei : im_at x (n + j) ≡ im_at h (n + j) = sym (a.back.im_is j l) ∙ (rw p at (w.back.im_is j l)) in
-          rw p (s.is j l ∙ rw (er, ei));
+          let er = sym (s.past.back.re_is j l) ∙ (rw p at (w.back.re_is j l)) in
+          let ei = sym (s.past.back.im_is j l) ∙ (rw p at (w.back.im_is j l)) in
+          rw p (s.squares.is j l ∙ rw (er, ei));
     }
 
 -- ---- step 8: the fed-back sample at at + 152
@@ -85,10 +86,6 @@ module _ (n m at : ℕ) (xr xi q h : List Float) (v : C32) (w : Window n m at xr
     is = fed q (norm v) (λ j. norm (complex (re_at h (n + j)) (im_at h (n + j)))) (λ j. norm (complex (re_at (fed_in n m v h) (n + j)) (im_at (fed_in n m v h) (n + j)))) lq s.is
         (λ l. rw ((first l).0, (first l).1)) (λ j l. rw ((more j l).0, (more j l).1));
   }
-
--- the squares of the feedback part, after step 1
-pub squares_in : (n m at : ℕ) (a : Arrays) (q : Equalizer) (x : C32) → Holds n m (at + 1) a q → Put at x a.xr a.xi → Squares a.q (at + 153) (step1 n x q.window) n m
-squares_in n m at a q x s g = squares_is n m at a.xr a.xi a.q q.window (step1 n x q.window) s.past s.squares (window_is n m at a q x s g)
 
 -- ---- ONE SAMPLE: whatever stage t the steps 3 to 7 come to, arrays that hold its weights and get its fed-back sample hold the equalizer after step 8
 pub holds_next : (n m at : ℕ) (a : Arrays) (q : Equalizer) (x : C32) (t : Stage) (wr' wi' : List Float)

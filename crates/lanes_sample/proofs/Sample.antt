@@ -1,19 +1,15 @@
 -- The arrays after the weights' step and the fed-back sample, and ONE SAMPLE against `sample_def`. Assumes nothing.
 use Prim.Native.Nat.{ℕ, ◌+◌, ◌-◌, ◌/◌, ◌%◌, ◌≤◌}
-use mathlib.Core.Path.{◌≡◌, refl, sym, ◌∙◌, ap, subst}
-use mathlib.Core.Bool.{Bool, true, false, cond}
+use mathlib.Core.Path.{◌≡◌, sym, ◌∙◌, ap, subst}
 use mathlib.Core.List.{List}
 use native.Mathlib.Omega.{arith}
 use lib.ListN.{set}
 use lib.Ieee.{Float}
 use Rattle.types.specs.declared.C32.{C32}
-use Rattle.types.specs.declared.EqualizeState.{EqualizeState}
 use Rattle.types.specs.declared.Update.{Update}
-use Rattle.types.specs.declared.Update.TheVariants.{Hold}
-use Rattle.definition.specs.Floats.{norm, finite_c}
+use Rattle.definition.specs.Floats.{norm}
 use Rattle.definition.specs.Slices.{power}
-use Rattle.types.specs.declared.Mark.TheVariants.{Blank, Spilled}
-use Rattle.definition.specs.Sample.{Equalizer, Did, Stage, forward, feedback, step1, step2, step3, step8, sample_def, adapted, hear, heard_as, passed_by, update_of}
+use Rattle.definition.specs.Sample.{Equalizer, Did, forward, feedback, step1, step2, step3, step8, sample_def, adapted}
 use Rattle.definition_laws.proofs.Accept.{Accepted}
 use Rattle.definition_laws.proofs.Kept.{Staged, staged}
 use Rattle.lanes.specs.Arrays.{Arrays, arrays}
@@ -79,21 +75,6 @@ sample_by_lem {n} {m} {p} {a} {q} s x =
     ap (λ (k : ℕ). sample_by k (forward q) (feedback q) q x) (holds-taps s)
     ∙ ap (λ (f : ℕ). sample_by (n + m) f (feedback q) q x) (holds-forward s)
     ∙ ap (λ (k : ℕ). sample_by (n + m) n k q x) s.fed_back
-
--- the update of a whole sample, by its three ways
-unfoldable pub update_in : EqualizeState → ℕ → ℕ → C32 → List Float → C32 → Update
-update_in s n f x h y = cond (finite_c x) (cond (finite_c y) (update_of (hear s n f h y).F (hear s n f h y).g) Hold) Hold
-
-update_ways : (s : EqualizeState) (w : List Float) (n f : ℕ) (h : List Float) (v : Stage) (u : Update) (b c : Bool) → v.weights ≡ adapted u n f w h
-    → (cond b (cond c v (passed_by s w Spilled)) (passed_by s w Blank)).weights ≡ adapted (cond b (cond c u Hold) Hold) n f w h
-unfolding adapted
-update_ways s w n f h v u true true e = e
-update_ways s w n f h v u true false e = refl
-update_ways s w n f h v u false c e = refl
-
-pub update_is : (s : EqualizeState) (w : List Float) (n f : ℕ) (x : C32) (h : List Float) (y : C32) → (step3 s w n f x h y).weights ≡ adapted (update_in s n f x h y) n f w h
-unfolding step3 update_in heard_as
-update_is s w n f x h y = update_ways s w n f h (heard_as s w n f h (hear s n f h y)) (update_of (hear s n f h y).F (hear s n f h y).g) (finite_c x) (finite_c y) refl
 
 staged_by : {n m p : ℕ} {a : Arrays} {q : Equalizer} → Holds n m p a q → Accepted q → (x : C32) (h : List Float) (y : C32) → Staged q (step3 q.state q.weights (n + m) n x h y)
 staged_by {n} {m} {p} {a} {q} s ok x h y =
