@@ -1,6 +1,6 @@
 -- The loop over the runs of a block. Assumes nothing.
-use Prim.Native.Nat.{ℕ, ◌*◌, ◌≤◌}
-use mathlib.Core.Path.{◌≡◌, refl, ◌∙◌}
+use Prim.Native.Nat.{ℕ, ◌+◌, ◌*◌, ◌<◌, ◌≤◌, min}
+use mathlib.Core.Path.{◌≡◌}
 use mathlib.Core.Bool.{true}
 use mathlib.Core.List.{List}
 use native.Mathlib.Omega.{arith}
@@ -26,58 +26,54 @@ pub record BlockReached (n m : ℕ) (q₀ : Equalizer) (xs : List Float) (a : Ar
   pub done : Progress q₀ xs (equalizer s weights window) ys ms i (2 * i)
   pub holds : Holds n m 64 a (equalizer s weights window)
 
-pub record BlockLoop (s₀ : EqualizeState) (g : Shape) (n : ℕ) (limit : List Float) (a₀ : Arrays) (xs ys₀ : List Float) (ms₀ : List ℕ) (a : Arrays) (ys : List Float) (ms : List ℕ) (s : EqualizeState) (i : ℕ) : Type 0 where
+pub record BlockLoop (s₀ : EqualizeState) (g : Shape) (n : ℕ) (limit : List Float) (a₀ : Arrays) (xs : List Float) (a : Arrays) (ys : List Float) (ms : List ℕ) (s : EqualizeState) (i : ℕ) : Type 0 where
   pub counts : rule_r4 s ≡ true
-  pub here : i ≤ length ms
   pub input : length xs ≡ 2 * length ms
   pub output : length ys ≡ 2 * length ms
-  pub long_ys : length ys ≡ length ys₀
-  pub long_ms : length ms ≡ length ms₀
-  pub reached : (w h : List Float) → accepted_def (equalizer s₀ w h) ≡ true → Setting g n limit → Holds n g.m 64 a₀ (equalizer s₀ w h) → BlockReached n g.m (equalizer s₀ w h) xs a ys ms s i
+  pub reached : (w h : List Float) → accepted_def (equalizer s₀ w h) ≡ true → Setting g n limit → Holds n g.m 64 a₀ (equalizer s₀ w h) → BlockReached n g.m (equalizer s₀ w h) xs a ys ms s (min i (length ms))
 
-pub loop_none : (s : EqualizeState) (g : Shape) (n : ℕ) (limit : List Float) (a : Arrays) (xs ys : List Float) (ms : List ℕ) → rule_r4 s ≡ true → length xs ≡ 2 * length ms → length ys ≡ 2 * length ms → BlockLoop s g n limit a xs ys ms a ys ms s 0
+pub loop_none : (s : EqualizeState) (g : Shape) (n : ℕ) (limit : List Float) (a : Arrays) (xs ys : List Float) (ms : List ℕ) → rule_r4 s ≡ true → length xs ≡ 2 * length ms → length ys ≡ 2 * length ms → BlockLoop s g n limit a xs a ys ms s 0
 loop_none s g n limit a xs ys ms c i o = record {
   counts = c;
-  here = omega arith;
   input = i;
   output = o;
-  long_ys = refl;
-  long_ms = refl;
-  reached = λ w h ok set hold. record { weights = w; window = h; done = progress_none (equalizer s w h) xs ys ms ok; holds = hold };
+  reached = λ w h ok set hold.
+      let z : min 0 (length ms) ≡ 0 = omega arith in
+      record { weights = w; window = h; done = rw z (progress_none (equalizer s w h) xs ys ms ok); holds = hold };
 }
 
-module _ (s₀ : EqualizeState) (g : Shape) (n : ℕ) (limit : List Float) (a₀ : Arrays) (xs ys₀ : List Float) (ms₀ : List ℕ) (a : Arrays) (ys : List Float) (ms : List ℕ) (s : EqualizeState) (i : ℕ)
-    (o : BlockLoop s₀ g n limit a₀ xs ys₀ ms₀ a ys ms s i) where
-  pub loop-more : (e : ℕ) (a' : Arrays) (ys' : List Float) (ms' : List ℕ) (r : EqualizeState) → i ≤ e → e ≤ length ms → length ys' ≡ length ys → length ms' ≡ length ms
-      → WholeRun s g n limit a xs ys ms i e a' ys' ms' r → BlockLoop s₀ g n limit a₀ xs ys₀ ms₀ a' ys' ms' r e
-  loop-more e a' ys' ms' r l k ly lm b = record {
+module _ (s₀ : EqualizeState) (g : Shape) (n : ℕ) (limit : List Float) (a₀ : Arrays) (xs : List Float) (a : Arrays) (ys : List Float) (ms : List ℕ) (s : EqualizeState) (i : ℕ)
+    (o : BlockLoop s₀ g n limit a₀ xs a ys ms s i) where
+  pub loop_more : (e : ℕ) (a' : Arrays) (ys' : List Float) (ms' : List ℕ) (r : EqualizeState) → i < length ms → e ≡ min (i + 64) (length ms) → length ys' ≡ length ys → length ms' ≡ length ms
+      → WholeRun s g n limit a xs ys ms i e a' ys' ms' r → BlockLoop s₀ g n limit a₀ xs a' ys' ms' r (i + 64)
+  loop_more e a' ys' ms' r l k ly lm b = record {
     counts = b.counts;
-    here = omega arith;
     input = omega (arith, lm, o.input);
     output = omega (arith, lm, ly, o.output);
-    long_ys = ly ∙ o.long_ys;
-    long_ms = lm ∙ o.long_ms;
     reached = λ w h ok set hold.
-        let z = o.reached w h ok set hold in
+        let j : min i (length ms) ≡ i = omega arith in
+        let next : min (i + 64) (length ms') ≡ e = omega (arith, k, lm) in
+        let z = rw j at (o.reached w h ok set hold) in
         let v = b.part_done z.weights z.window z.done.accepted set z.holds in
         let q = equalizer s z.weights z.window in
         let q' = equalizer r v.after.weights v.after.window in
         record {
           weights = v.after.weights;
           window = v.after.window;
-          done = rw (v.out, v.marks) (progress-run (equalizer s₀ w h) xs q ys ms i e z.done o.input o.output l k q' v.part v.part_marks v.after.ran);
+          done = rw (next, v.out, v.marks) (progress-run (equalizer s₀ w h) xs q ys ms i e z.done o.input o.output (omega (arith, k)) (omega (arith, k)) q' v.part v.part_marks v.after.ran);
           holds = v.after.holds;
         };
   }
 
-  pub loop-all : length ms ≤ i → AllRuns s₀ g n limit a₀ xs a ys ms s
-  loop-all l = record {
+  pub loop_all : length ms ≤ i → AllRuns s₀ g n limit a₀ xs a ys ms s
+  loop_all l = record {
     after = λ w h ok set hold.
-        let z = o.reached w h ok set hold in
+        let j : min i (length ms) ≡ length ms = omega arith in
+        let z = rw j at (o.reached w h ok set hold) in
         record {
           weights = z.weights;
           window = z.window;
-          ran = progress-all (equalizer s₀ w h) xs (equalizer s z.weights z.window) ys ms i (2 * i) z.done l (omega (arith, o.output)) (omega (arith, o.input));
+          ran = progress-all (equalizer s₀ w h) xs (equalizer s z.weights z.window) ys ms (length ms) (2 * length ms) z.done (omega arith) (omega (arith, o.output)) (omega (arith, o.input));
           holds = z.holds;
         };
   }

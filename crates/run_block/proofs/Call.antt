@@ -52,14 +52,14 @@ module _ (s : EqualizeState) (w h xs ys : List Float) (ms : List ℕ) (n m : ℕ
   taps : Taps (equalizer s w h)
   taps = shape (equalizer s w h) accepted
 
-  pub asked-shape : (3 ≤ n) × ((n ≤ 63) × (m ≤ 63))
-  asked-shape = let t = taps in rw (q.forth, q.back) (t.some, (t.most, t.back))
+  pub asked_shape : (3 ≤ n) × ((n ≤ 63) × (m ≤ 63))
+  asked_shape = let t = taps in rw (q.forth, q.back) (t.some, (t.most, t.back))
 
-  pub asked-long : (g : Shape) → Formed n m g → (length w ≡ 2 * (n + g.m)) × (length h ≡ 2 * (n + g.m))
-  asked-long g f = let t = taps in rw (f.back_is, q.forth, q.back, t.sum) (t.weights, t.window)
+  pub asked_long : (g : Shape) → Formed n m g → (length w ≡ 2 * (n + g.m)) × (length h ≡ 2 * (n + g.m))
+  asked_long g f = let t = taps in rw (f.back_is, q.forth, q.back, t.sum) (t.weights, t.window)
 
-  pub asked-r4 : rule_r4 s ≡ true
-  asked-r4 = is_true (rule_r4 s) accepted.r4
+  pub asked_r4 : rule_r4 s ≡ true
+  asked_r4 = is_true (rule_r4 s) accepted.r4
 
 pub call_is : (s : EqualizeState) (w h xs ys₀ : List Float) (ms₀ : List ℕ) (n m : ℕ) (g : Shape) (limit : List Float) (a : Arrays) (wr wi xr xi sq ys : List Float) (ms : List ℕ) (r : EqualizeState) (w' h' : List Float)
     → Asked s w h xs ys₀ ms₀ n m → Formed n m g → Limits limit 0 0 n × Limits limit 72 g.front g.m → Loads n g.m w h a → AllRuns s g n limit a xs (arrays wr wi xr xi sq) ys ms r
@@ -76,7 +76,7 @@ call_is s w h xs ys₀ ms₀ n m g limit a wr wi xr xi sq ys ms r w' h' q f l o 
     let ok = q.shaped.accepted in
     let hold = o.loaded s ok (sym q.forth) (sym q.back ∙ sym e) in
     let z = c.after w h ok set hold in
-    let long = asked-long s w h xs ys₀ ms₀ n m q g f in
+    let long = asked_long s w h xs ys₀ ms₀ n m q g f in
     let back = t.stored sq (equalizer r z.weights z.window) z.holds (long.0 ∙ sym z.holds.weights.taps) (long.1 ∙ sym z.holds.past.taps) in
     record { left = rw (back.0, back.1) z.ran.left; out = z.ran.out; marks = z.ran.marks }
 

@@ -17,6 +17,7 @@ use run_samples::Call;
 use types::EqualizeState;
 
 // All runs of a block. By a place: behind `chunks_mut` a proof knows no element of output and marks.
+#[tactic(auto, using(crate::proofs::BlockLoop::loop_none, crate::proofs::BlockLoop::loop_all))]
 fn linear_runs(
     state: EqualizeState,
     call: &Call,
@@ -33,7 +34,7 @@ fn linear_runs(
     let mut ahead = Ahead::ZERO;
     let mut s = state;
     for i in (0..marks.len()).step_by(RUN) {
-        let e = i + RUN.min(marks.len() - i);
+        let e = (i + RUN).min(marks.len());
         s = run_one::run(s, call, w, h, &mut ahead, input, output, marks, i, e);
     }
     s
@@ -90,6 +91,7 @@ fn store_linear(call: &Call, weights: &mut [f32], window: &mut [f32], w: &Weight
 }
 
 // A block by n forward and m feedback taps: arrays, all runs, and back.
+#[tactic(auto, using(crate::proofs::Call::asked_shape, crate::proofs::Call::asked_long, crate::proofs::Call::call_is))]
 pub fn linear_state(
     state: EqualizeState,
     weights: &mut [f32],
