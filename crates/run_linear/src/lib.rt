@@ -8,6 +8,7 @@ ghost use Rattle.definition.specs.Run.{run_def};
 use types::EqualizeState;
 
 // A block of samples of an accepted record.
+#[tactic(auto, using(run_block::proofs::Call::feedback_fits_lem))]
 pub fn equalize_linear(
     state: EqualizeState,
     weights: &mut [f32],
