@@ -1,12 +1,13 @@
 // The square constellations: levels, the nearest level of a part, the nearest point.
 #![tactic(auto)]
 
-ghost use Rattle.std.specs.Prelude.{◌≡◌, ◌-◌, ◌<◌, ◌≤◌, cond, pos, count_by, slice_index_or};
+ghost use Rattle.std.specs.Prelude.{◌≡◌, ◌-◌, ◌<◌, ◌≤◌, cond, pos, count_by};
 ghost use Rattle.std.specs.List.{range_with_len};
-ghost use Rattle.std.specs.Float.{nan, binary32};
+ghost use Rattle.std.specs.Float.{binary32};
 ghost use Rattle.std.specs.Float.Ieee.{le, of_int};
 ghost use Rattle.definition.specs.Floats.{◌+f◌, ◌*f◌, complex};
-ghost use Rattle.definition.specs.Points.{held_to, level_of, qam_point};
+ghost use Rattle.definition.specs.Points.{level_of, qam_point};
+ghost use Rattle.constellation_qam.specs.Nearest.{nearest, level_near};
 
 use types::{C32, Qam};
 
@@ -74,7 +75,7 @@ impl<const M: usize> Grid<M> {
     // The index of the level nearest to a part v: how many of the places 1 .. M - 1 its own reaches. That is its floor, held to 0 .. M - 1. A NaN gives 0.
     #[tactic(auto, using(crate::proofs::Levels::counted_is))]
     fn index(&self, v: f32) -> usize
-        ensures value { result ≡ held_to (M - 1) (v *f self.now.scale +f self.now.half) }
+        ensures value { result ≡ nearest M self.now.scale self.now.half v }
         ensures below { result < M }
     {
         self.reached(self.place(v))
@@ -82,7 +83,7 @@ impl<const M: usize> Grid<M> {
 
     // The level nearest to a part v, by comparisons that select it. Not `self.levels[self.index(v)]`: a sample of 16-QAM took 96 ns so, and 92 by this loop.
     fn level(&self, v: f32) -> f32
-        ensures { result ≡ slice_index_or self.now.levels (held_to (M - 1) (v *f self.now.scale +f self.now.half)) nan }
+        ensures { result ≡ level_near M self.now.levels self.now.scale self.now.half v }
     {
         let t = self.place(v);
         let mut r = self.levels[0];
@@ -95,8 +96,8 @@ impl<const M: usize> Grid<M> {
     // The point nearest to y, part by part.
     fn point(&self, y: C32) -> C32
         ensures { result ≡ complex
-            (slice_index_or self.now.levels (held_to (M - 1) (y.re *f self.now.scale +f self.now.half)) nan)
-            (slice_index_or self.now.levels (held_to (M - 1) (y.im *f self.now.scale +f self.now.half)) nan) }
+            (level_near M self.now.levels self.now.scale self.now.half y.re)
+            (level_near M self.now.levels self.now.scale self.now.half y.im) }
     {
         C32 {
             re: self.level(y.re),

@@ -1,0 +1,2 @@
+-- Nearest: the level nearest to a part.
+pub mod Nearest

@@ -1,0 +1,13 @@
+-- The level nearest to a part of a number, by a grid.
+use Rattle.std.specs.Prelude.{ℕ, ◌-◌, List, slice_index_or, Float}
+use Rattle.std.specs.Float.{nan}
+use Rattle.definition.specs.Floats.{◌+f◌, ◌*f◌}
+use Rattle.definition.specs.Points.{held_to}
+
+-- the index among m levels of the one nearest to v, which lies at v * scale + half on the grid of whole numbers: its floor, held to 0 .. m - 1
+abbrev pub nearest : ℕ → Float → Float → Float → ℕ
+nearest m scale half v = held_to (m - 1) (v *f scale +f half)
+
+-- that level
+abbrev pub level_near : ℕ → List Float → Float → Float → Float → Float
+level_near m levels scale half v = slice_index_or levels (nearest m scale half v) nan
