@@ -53,7 +53,7 @@ fn by_runs(taps: usize, feedback: usize, len: usize) -> bool {
     match feedback {
         _ if len < 8 => false,
         0 => len >= quick_from(taps),
-        _ => (taps != 4) & (len >= joint_from(taps)),
+        _ => taps != 4 && len >= joint_from(taps),
     }
 }
 
