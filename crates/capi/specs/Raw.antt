@@ -1,6 +1,9 @@
 -- THE EXPORTED EQUALIZING CALLS, whole: what each replies and leaves, from the record as numbers (capi_numbers). The others are in capi_state.
 use Rattle.std.specs.Prelude.{ℕ, ◌≡◌, cond, ◌&&◌, List, length, Float}
-use Rattle.definition.specs.Packed.{equalizer}
+use denote.Ref.{Bor, MutBor}
+use Rattle.types.specs.declared.EqualizeState.{EqualizeState}
+use Rattle.types.specs.declared.Equalized.{Equalized}
+use Rattle.definition.specs.Packed.{equalizer, answered}
 use Rattle.definition.specs.Calls.{even, Answer, equalize_def}
 use Rattle.capi_numbers.specs.declared.EqRecord.{EqRecord}
 use Rattle.capi_numbers.specs.declared.EqReply.{EqReply}
@@ -33,3 +36,13 @@ pub data Entry : Type 0 where
 -- b is the reply, and the later content of all that the call was handed. The same of both.
 abbrev pub PromisedRaw : Entry → EqRecord → List Float → List Float → List Float → List Float → List ℕ → Block → Type 0
 PromisedRaw entry r w h xs ys ms b = b ≡ equalize_raw r w h xs ys ms
+
+-- where a call may give and leave what P says, it is the definition's answer
+abbrev pub AsDefined :
+    (EqualizeState → MutBor (List Float) → MutBor (List Float) → Bor (List Float) → MutBor (List Float) → MutBor (List ℕ) → Equalized → MutBor (List Float) → MutBor (List Float)
+    → MutBor (List Float) → MutBor (List ℕ) → Type 0)
+    → Type 0
+AsDefined P =
+    (s : EqualizeState) (w h : MutBor (List Float)) (xs : Bor (List Float)) (ys : MutBor (List Float)) (ms : MutBor (List ℕ))
+    (e : Equalized) (w' h' ys' : MutBor (List Float)) (ms' : MutBor (List ℕ))
+    → P s w h xs ys ms e w' h' ys' ms' → answered e w'.now h'.now ys'.now ms'.now ≡ equalize_def (equalizer s w.now h.now) xs.now ys.now ms.now

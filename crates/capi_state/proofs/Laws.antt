@@ -1,6 +1,6 @@
 -- The exported calls that take no samples, from the calls: one law for each exit. Assumes nothing.
-use mathlib.Core.Path.{◌≡◌, ap}
-use mathlib.Core.Bool.{true, ◌&&◌}
+use mathlib.Core.Path.{◌≡◌, ap, subst}
+use mathlib.Core.Bool.{true, cond, ◌&&◌}
 use mathlib.Core.List.{List}
 use lib.ListN.{length}
 use lib.Ieee.{Float}
@@ -11,13 +11,13 @@ use Rattle.std.specs.Prelude.{Ok, Err}
 use Rattle.types.specs.declared.numbers.UnknownNumber.{UnknownNumber}
 use Rattle.definition.specs.Refusals.{Fresh, reply_of, fresh_reply}
 use Rattle.definition.specs.Packed.{equalizer, made, reset_to, settled}
-use Rattle.definition.specs.Calls.{even, new_def, reset_def, set_mu_cma_def, set_mu_dd_def, set_frequency_def}
+use Rattle.definition.specs.Calls.{even, SetAnswer, new_def, reset_def}
 use Rattle.capi_numbers.specs.declared.EqSettings.{EqSettings}
 use Rattle.capi_numbers.specs.declared.EqRecord.{EqRecord}
 use Rattle.capi_numbers.specs.declared.EqReply.{EqReply}
-use Rattle.capi_numbers.specs.RawRecord.{read_settings, read_record, record_out, no_record, replied, fresh_out, unknown}
+use Rattle.capi_numbers.specs.RawRecord.{known_record, record_in, read_settings, read_record, record_out, no_record, replied, fresh_out, unknown}
 use Rattle.capi_numbers.proofs.Facts.{settings_ok, settings_err, record_ok, record_err}
-use Rattle.capi_state.specs.Raw.{filter, new_out, new_raw, reset_out, reset_raw, set_out, set_mu_cma_raw, set_mu_dd_raw, set_frequency_raw}
+use Rattle.capi_state.specs.Raw.{filter, new_out, new_raw, reset_out, reset_raw, set_out}
 
 -- ---- new
 
@@ -40,32 +40,16 @@ module _ (p : EqRecord) (r : EqReply) where
     unfolding reset_raw
     reset_unknown w h d = rw (record_err p x n, d)
 
-    pub cma_unknown : (mu : Float) → r ≡ replied p (unknown true) → r ≡ set_mu_cma_raw p mu
-    unfolding set_mu_cma_raw
-    cma_unknown mu d = rw (record_err p x n) d
-
-    pub dd_unknown : (mu : Float) → r ≡ replied p (unknown true) → r ≡ set_mu_dd_raw p mu
-    unfolding set_mu_dd_raw
-    dd_unknown mu d = rw (record_err p x n) d
-
-    pub frequency_unknown : (v : Float) → r ≡ replied p (unknown true) → r ≡ set_frequency_raw p v
-    unfolding set_frequency_raw
-    frequency_unknown v d = rw (record_err p x n) d
+    pub set_unknown : (a : SetAnswer) → r ≡ replied p (unknown true) → r ≡ cond (known_record p) (set_out a) (replied p (unknown true))
+    set_unknown a d = rw (record_err p x n) d
 
   module _ (s : EqualizeState) (y : read_record p ≡ Ok s) where
-    pub frequency_known : (v : Float) (q : EqualizeState) (t : EqRecord) → q ≡ set_frequency_def s v → t ≡ record_out q → r ≡ replied t (reply_of (Ok tt)) → r ≡ set_frequency_raw p v
-    unfolding set_frequency_raw
-    frequency_known v q t m o d = let k = record_ok p s y in rw (k.0, ← k.1, ← m, ← o) d
-
     module _ (e : Equalized) (d : r ≡ replied (record_out e.state) (reply_of e.outcome)) where
       pub reset_known : (w h w' h' : List Float) → reset_to e w' h' ≡ reset_def (equalizer s w h) → filter r w' h' ≡ reset_raw p w h
       unfolding reset_raw
       reset_known w h w' h' m = let k = record_ok p s y in rw (k.0, d, ← k.1) (ap reset_out m)
 
-      pub cma_known : (mu : Float) → settled e ≡ set_mu_cma_def s mu → r ≡ set_mu_cma_raw p mu
-      unfolding set_mu_cma_raw
-      cma_known mu m = let k = record_ok p s y in rw (k.0, d, ← k.1) (ap set_out m)
-
-      pub dd_known : (mu : Float) → settled e ≡ set_mu_dd_def s mu → r ≡ set_mu_dd_raw p mu
-      unfolding set_mu_dd_raw
-      dd_known mu m = let k = record_ok p s y in rw (k.0, d, ← k.1) (ap set_out m)
+      -- P says what a setter may give
+      pub set_known : (P : EqualizeState → Equalized → Type 0) → P s e → (a : SetAnswer) → ((e : Equalized) → P (record_in p) e → settled e ≡ a)
+          → r ≡ cond (known_record p) (set_out a) (replied p (unknown true))
+      set_known P q a h = let k = record_ok p s y in rw (k.0, d) (ap set_out (h e (subst (λ t. P t e) k.1 q)))

@@ -1,15 +1,16 @@
-// The calls of C that take no samples, from the record as numbers; `capi` calls them and says which numbers each refuses with.
+// The calls of C that take no samples, from the record as numbers; `capi` has them among its own.
 #![tactic(auto)]
 
-ghost use Rattle.std.specs.Prelude.{◌≡◌, ◌&&◌, length};
-ghost use Rattle.definition.specs.Calls.{even};
-ghost use Rattle.capi_numbers.specs.RawRecord.{replied, unknown as unknownDef};
-ghost use Rattle.capi_state.specs.Raw.{filter, new_raw, reset_raw, set_mu_cma_raw, set_mu_dd_raw, set_frequency_raw};
+ghost use Rattle.std.specs.Prelude.{◌≡◌, true, ◌&&◌, cond, length};
+ghost use Rattle.definition.specs.Packed.{settled};
+ghost use Rattle.definition.specs.Calls.{even, SetAnswer};
+ghost use Rattle.capi_numbers.specs.RawRecord.{known_record, record_in, replied, unknown as unknownDef};
+ghost use Rattle.capi_state.specs.Raw.{filter, set_out, new_raw, reset_raw, set_mu_cma_raw, set_mu_dd_raw, set_frequency_raw};
 
 use capi_numbers::{EqRecord, EqReply, EqSettings};
-use types::{EqParams, EqualizeState};
+use types::{EqParams, EqualizeState, Equalized};
 
-// Each promise stands here, in `capi` and in `capi_c`: an exported function says its own.
+// Each promise stands here and in `capi_c`: an exported function says its own.
 
 // The reply of a call that takes weights and window to an unknown number: 1 where one is odd, else 8.
 fn unknown(record: EqRecord, weights: &[f32], window: &[f32]) -> EqReply
@@ -21,7 +22,7 @@ fn unknown(record: EqRecord, weights: &[f32], window: &[f32]) -> EqReply
     )
 }
 
-// A new equalizer.
+// A new equalizer: weights and window are set. Refusals 1 to 8; the record is then all zeros.
 #[tactic(auto, using(crate::proofs::Laws::new_unknown, crate::proofs::Laws::new_known))]
 pub fn new(settings: EqSettings, weights: &mut [f32], window: &mut [f32]) -> EqReply
     ensures { filter result weights.new window.new ≡ new_raw settings weights.old window.old }
@@ -32,7 +33,7 @@ pub fn new(settings: EqSettings, weights: &mut [f32], window: &mut [f32]) -> EqR
     EqReply::from(equalize_state::new(weights, window, params))
 }
 
-// Back to the start.
+// Back to the start, with the settings and gains kept. Refusals 1 and 8.
 #[tactic(auto, using(crate::proofs::Laws::reset_unknown, crate::proofs::Laws::reset_known))]
 pub fn reset(raw: EqRecord, weights: &mut [f32], window: &mut [f32]) -> EqReply
     ensures { filter result weights.new window.new ≡ reset_raw raw weights.old window.old }
@@ -43,38 +44,41 @@ pub fn reset(raw: EqRecord, weights: &mut [f32], window: &mut [f32]) -> EqReply
     EqReply::from(equalize_state::reset(state, weights, window))
 }
 
-// The three setters stand one by one: a function over them would be handed a closure, and say of it what each says of itself.
+// The reply of a setter to the numbers of a record; 8 where one is unknown.
+#[tactic(auto, using(crate::proofs::Laws::set_unknown))]
+fn set<F: FnOnce(EqualizeState) -> Equalized>(raw: EqRecord, setter: F) -> EqReply
+    requires { F.IsAlwaysCallable setter }
+    ensures { (a : SetAnswer) → ((e : _) → F.post setter (record_in raw) e → settled e ≡ a)
+        → result ≡ cond (known_record raw) (set_out a) (replied raw (unknownDef true)) }
+{
+    let Ok(state) = EqualizeState::try_from(raw) else {
+        return EqReply::unknown(raw, true);
+    };
+    EqReply::from(setter(state))
+}
 
-// Another step size for Cma.
-#[tactic(auto, using(crate::proofs::Laws::cma_unknown, crate::proofs::Laws::cma_known))]
+// Another step size for Cma. Refusals 5, and 8 for an unknown number.
+#[tactic(auto, unfolding(crate::specs::Raw::set_mu_cma_raw))]
 pub fn set_mu_cma(raw: EqRecord, mu: f32) -> EqReply
     ensures { result ≡ set_mu_cma_raw raw mu }
 {
-    let Ok(state) = EqualizeState::try_from(raw) else {
-        return EqReply::unknown(raw, true);
-    };
-    EqReply::from(equalize_state::set_mu_cma(state, mu))
+    set(raw, |state| equalize_state::set_mu_cma(state, mu))
 }
 
-// Another step size for Decision.
-#[tactic(auto, using(crate::proofs::Laws::dd_unknown, crate::proofs::Laws::dd_known))]
+// Another step size for Decision. Refusals 6, and 8 for an unknown number.
+#[tactic(auto, unfolding(crate::specs::Raw::set_mu_dd_raw))]
 pub fn set_mu_dd(raw: EqRecord, mu: f32) -> EqReply
     ensures { result ≡ set_mu_dd_raw raw mu }
 {
-    let Ok(state) = EqualizeState::try_from(raw) else {
-        return EqReply::unknown(raw, true);
-    };
-    EqReply::from(equalize_state::set_mu_dd(state, mu))
+    set(raw, |state| equalize_state::set_mu_dd(state, mu))
 }
 
-// The tracker's frequency from outside.
-#[tactic(auto, using(crate::proofs::Laws::frequency_unknown, crate::proofs::Laws::frequency_known))]
+// The tracker's frequency from outside. Refusal 8 for an unknown number.
+#[tactic(auto, unfolding(crate::specs::Raw::set_frequency_raw))]
 pub fn set_frequency(raw: EqRecord, freq: f32) -> EqReply
     ensures { result ≡ set_frequency_raw raw freq }
 {
-    let Ok(state) = EqualizeState::try_from(raw) else {
-        return EqReply::unknown(raw, true);
-    };
-    let next = equalize_state::set_frequency(state, freq);
-    EqReply::served(EqRecord::from(next))
+    set(raw, |state| {
+        Equalized::served(equalize_state::set_frequency(state, freq))
+    })
 }

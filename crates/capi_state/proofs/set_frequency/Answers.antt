@@ -1,7 +1,10 @@
--- `capi_state::set_frequency` replies what `set_frequency_raw` says, where the numbers are known; an unknown one is found by the law named on the function.
-use mathlib.Core.Path.{sym, ◌∙◌}
-use Rattle.capi_state.proofs.Laws.{frequency_known}
+-- `capi_state::set_frequency` replies what `set_frequency_raw` says: its setter is served. Assumes nothing.
+use Rattle.std.proofs.Common.{Ok, rules}
+use Rattle.definition.specs.Calls.{set_answer, set_frequency_def}
+use Rattle.capi_numbers.specs.RawRecord.{record_in}
+use Rattle.capi_state.specs.Raw.{set_frequency_raw}
 use Rattle.capi_state.proofs.set_frequency.Goals as goal
 
 pub returns : goal.returns
-returns c = frequency_known _ _ _ (sym c.try_from.ensures ∙ c.in-Ok.is) _ _ _ c.set_frequency-next.ensures c.from.ensures c.served.ensures
+unfolding set_frequency_raw
+returns c = c.set.ensures (set_answer (Ok tt) (set_frequency_def (record_in c.args.raw) c.args.freq)) (λ e p. search rules)

@@ -1,2 +1,0 @@
--- How a stream ends.
-pub mod Ends
