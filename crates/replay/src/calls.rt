@@ -3,6 +3,7 @@
 // record, taps n, samples k1 and k2 of the calls, n weights, n window values, k1 + k2 samples;
 // k1 + k2 symbols, their marks, record, n weights, n window values.
 ghost use Rattle.std.specs.Prelude.{◌≡◌, ◌+◌, ◌*◌, ◌≤◌, length};
+ghost use Rattle.replay.specs.declared.words.TheConstants.{MOST_SAMPLES, MOST_TAPS};
 
 use crate::records;
 use crate::records::{Left, Record};
@@ -22,23 +23,23 @@ struct Case<'a> {
     marks: &'a [u64],
     left: Left<'a>,
     ghost first: { k1 ≤ k },
-    ghost all: { k ≤ 4096 },
+    ghost all: { k ≤ MOST_SAMPLES },
     ghost samples_len: { length samples.now ≡ 2 * k },
-    ghost weights_len: { length weights.now ≤ 256 },
-    ghost window_len: { length window.now ≤ 256 },
+    ghost weights_len: { length weights.now ≤ 2 * MOST_TAPS },
+    ghost window_len: { length window.now ≤ 2 * MOST_TAPS },
 }
 
 impl Case<'_> {
     fn of(w: &[u64]) -> Option<Case<'_>> {
         let (record, w) = w.split_first_chunk()?;
         let (sizes, mut w) = w.split_first_chunk()?;
-        let [n, k1, k2]: [u64; 3] = *sizes;
-        let most = MOST_SAMPLES as u64;
-        if n > MOST_TAPS || k1 > most || k2 > most - k1 {
+        let sizes: &[u64; 3] = sizes;
+        let [n, k1, k2] = sizes.map(|size| size as usize);
+        if n > MOST_TAPS || k1 > MOST_SAMPLES || k2 > MOST_SAMPLES - k1 {
             return None;
         }
-        let parts = 2 * (n as usize);
-        let k = (k1 + k2) as usize;
+        let parts = 2 * n;
+        let k = k1 + k2;
         let weights = w.split_off(..parts)?;
         let window = w.split_off(..parts)?;
         let samples = w.split_off(..2 * k)?;
@@ -47,7 +48,7 @@ impl Case<'_> {
         let left = Left::of(w, parts, parts)?;
         Some(Case {
             record,
-            k1: k1 as usize,
+            k1,
             k,
             weights,
             window,

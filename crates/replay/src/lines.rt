@@ -151,6 +151,9 @@ impl Reader {
     }
 }
 
+// The bytes that are read at once.
+const CHUNK: usize = 4096;
+
 // A proved loop has to end, and nothing says that a file does: no file uses up the turns.
 pub(crate) fn read_all(file: &File, leaf: &Leaf) -> Tally {
     let mut from = file;
@@ -158,7 +161,7 @@ pub(crate) fn read_all(file: &File, leaf: &Leaf) -> Tally {
         line: Line::new(),
         tally: Tally::default(),
     };
-    let mut buf = [0u8; 4096];
+    let mut buf = [0u8; CHUNK];
     for _ in 0..u64::MAX {
         match from.read(&mut buf) {
             Ok(0) => {

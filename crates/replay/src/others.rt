@@ -2,7 +2,8 @@
 // record, number of the operation, its step size or frequency, taps n of the weights and m of the window,
 // n weights, m window values; number of the refusal and its two lengths (0 where there are none), record,
 // n weights, m window values.
-ghost use Rattle.std.specs.Prelude.{◌≤◌, length};
+ghost use Rattle.std.specs.Prelude.{◌*◌, ◌≤◌, length};
+ghost use Rattle.replay.specs.declared.words.TheConstants.{MOST_TAPS};
 
 use crate::patterns::{case_of, single};
 use crate::records;
@@ -65,8 +66,8 @@ struct Case<'a> {
     window: &'a [u64],
     refusal: [u64; 3],
     left: Left<'a>,
-    ghost weights_len: { length weights.now ≤ 256 },
-    ghost window_len: { length window.now ≤ 256 },
+    ghost weights_len: { length weights.now ≤ 2 * MOST_TAPS },
+    ghost window_len: { length window.now ≤ 2 * MOST_TAPS },
 }
 
 impl Case<'_> {
@@ -74,16 +75,15 @@ impl Case<'_> {
         let (record, w) = w.split_first_chunk()?;
         let (head, mut w) = w.split_first_chunk()?;
         let [operation, x, n, m]: [u64; 4] = *head;
+        let (n, m) = (n as usize, m as usize);
         if n > MOST_TAPS || m > MOST_TAPS {
             return None;
         }
         let operation = case_of(operation)?;
-        let a = 2 * (n as usize);
-        let b = 2 * (m as usize);
-        let weights = w.split_off(..a)?;
-        let window = w.split_off(..b)?;
+        let weights = w.split_off(..2 * n)?;
+        let window = w.split_off(..2 * m)?;
         let (refusal, w) = w.split_first_chunk()?;
-        let left = Left::of(w, a, b)?;
+        let left = Left::of(w, 2 * n, 2 * m)?;
         Some(Case {
             record,
             operation,

@@ -4,7 +4,9 @@ use crate::patterns::{case_of, double, pattern, pattern_double, single, whole};
 use crate::words::same_floats;
 use types::{EqParams, EqualizeState};
 
-pub(crate) type Record = [u64; 14];
+pub(crate) const RECORD: usize = 14;
+
+pub(crate) type Record = [u64; RECORD];
 
 pub(crate) fn record_of(r: &Record) -> Option<EqualizeState> {
     let [

@@ -2,10 +2,8 @@
 ghost use Rattle.std.specs.Prelude.{◌≡◌, ◌≤◌, length};
 
 use crate::patterns::{same, single};
+use crate::records::RECORD;
 use arrayvec::ArrayVec;
-
-// The most words are those of two calls with 4,096 samples and 128 taps.
-pub(crate) type Words = ArrayVec<u64, 18000>;
 
 // The most samples that a line has, and their floats: nothing of a line has more.
 pub(crate) const MOST_SAMPLES: usize = 4096;
@@ -15,11 +13,16 @@ pub(crate) const FLOATS: usize = 2 * MOST_SAMPLES;
 pub(crate) type Floats = ArrayVec<f32, FLOATS>;
 
 // The most taps that a line has.
-pub(crate) const MOST_TAPS: u64 = 128;
+pub(crate) const MOST_TAPS: usize = 128;
+
+// The most words are those of two calls: two records, three sizes, weights and window before and after, samples, symbols, marks.
+const MOST_WORDS: usize = 2 * RECORD + 3 + 8 * MOST_TAPS + 2 * FLOATS + MOST_SAMPLES / 8;
+
+pub(crate) type Words = ArrayVec<u64, MOST_WORDS>;
 
 // A loop: a `collect` would answer an error where there is no room, and there is room for each.
 pub(crate) fn floats(words: &[u64]) -> Floats
-    requires { length words.now ≤ 8192 }
+    requires { length words.now ≤ FLOATS }
     ensures { length result.items ≡ length words.now }
 {
     let mut x = Floats::new();
