@@ -23,6 +23,9 @@ pub enum Part<'a> {
     Reason(Error),
 }
 
+// A line, of two long names at least.
+type Line = Page<8192>;
+
 // Something is not as it should be, and a line says what.
 #[derive(Clone, Copy)]
 pub struct Told;
@@ -30,7 +33,7 @@ pub struct Told;
 impl Program<'_> {
     // Writes a line.
     pub fn tell(self, parts: &[Part<'_>]) -> Told {
-        let mut line: Page<8192> = Page::new();
+        let mut line = Line::new();
         line.words(self.name);
         line.words(b": ");
         for part in parts {
@@ -48,7 +51,8 @@ impl Program<'_> {
     }
 }
 
-// An error in words, of those that a file meets, by its kind.
+// An error in words, of those that a file meets, by its kind. No `{e}`: it prints the C library's words and a number, as `No such file or directory (os error 2)`,
+// or a kind's of the library, and these are the program's own.
 fn reason(e: Error) -> &'static [u8] {
     match e.kind() {
         ErrorKind::NotFound => b"there is no such file or folder",
