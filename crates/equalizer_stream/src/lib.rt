@@ -1,8 +1,8 @@
 // A stream of samples, of any length, by calls of at most 4,096. What the calls give for what was read at once is written at once.
 #![tactic(auto)]
 
-ghost use Rattle.std.specs.Prelude.{◌≡◌, ◌-◌, ◌*◌, ◌<◌, ◌≤◌, length};
-ghost use Rattle.equalizer_stream.specs.Ends.{is_whole};
+ghost use Rattle.std.specs.Prelude.{◌≡◌, ◌<◌, ◌≤◌, is_ok, length};
+ghost use Rattle.equalizer_stream.specs.declared.TheConstants.{MOST};
 
 pub use cf32_block::Path;
 use program::files::{Sink, Source};
@@ -30,7 +30,7 @@ pub struct Ways {
 impl Ways {
     // How many samples a call takes. Anybody may write the field, 0 and too many too: these are as many as can be.
     fn block(self) -> usize
-        ensures { (0 < result) × (result ≤ 4096) }
+        ensures { (0 < result) × (result ≤ MOST) }
     {
         match self.block {
             1..=MOST => self.block,
@@ -69,12 +69,13 @@ pub struct Tally {
 impl Tally {
     fn add(&mut self, mark: u8) {
         self.samples = self.samples.saturating_add(1);
-        match Mark::try_from(mark) {
-            Ok(Mark::Heard) => self.heard = self.heard.saturating_add(1),
-            Ok(Mark::Blank) => self.blank = self.blank.saturating_add(1),
-            Ok(Mark::Spilled) => self.spilled = self.spilled.saturating_add(1),
-            Err(_) => self.unknown = self.unknown.saturating_add(1),
-        }
+        let count = match Mark::try_from(mark) {
+            Ok(Mark::Heard) => &mut self.heard,
+            Ok(Mark::Blank) => &mut self.blank,
+            Ok(Mark::Spilled) => &mut self.spilled,
+            Err(_) => &mut self.unknown,
+        };
+        *count = count.saturating_add(1);
     }
 }
 
@@ -110,7 +111,7 @@ pub struct Done {
 
 impl Done {
     pub fn is_whole(self) -> bool
-        ensures { result ≡ is_whole self.ending }
+        ensures { result ≡ is_ok self.ending }
     {
         self.ending.is_ok()
     }
@@ -123,34 +124,30 @@ struct Filled {
     more: io::Result<bool>,
 }
 
-// Reads until raw is full, the input ends or a read fails. A `while`: a read tells how far it came, and no call of the library fills partly and
+// Reads until raw is full, the input ends or a read fails. A loop: a read tells how far it came, and no call of the library fills partly and
 // says how far.
 fn fill(mut input: Source<'_>, raw: &mut [u8]) -> Filled
     ensures { result.bytes ≤ length raw.old }
 {
     let mut bytes = 0;
-    while bytes < raw.len() {
-        match input.read(&mut raw[bytes..]) {
-            Ok(0) => {
-                return Filled {
-                    bytes,
-                    more: Ok(false),
-                };
-            }
-            Ok(n) => bytes += n,
-            Err(e) => {
-                return Filled {
-                    bytes,
-                    more: Err(e),
-                };
-            }
+    let more = loop {
+        if bytes >= raw.len() {
+            break Ok(true);
         }
-    }
-    Filled {
-        bytes,
-        more: Ok(true),
-    }
+        match input.read(&mut raw[bytes..]) {
+            Ok(0) => break Ok(false),
+            Ok(n) => bytes += n,
+            Err(e) => break Err(e),
+        }
+    };
+    Filled { bytes, more }
 }
+
+// A page of lines.
+type Lines = Page<8192>;
+
+// No line is as long.
+const LINE: usize = 128;
 
 // A float, and a blank.
 fn spaced<const N: usize>(p: &mut Page<N>, x: f32) {
@@ -159,18 +156,15 @@ fn spaced<const N: usize>(p: &mut Page<N>, x: f32) {
 }
 
 // A symbol and its mark in a line.
-fn line(p: &mut Page<8192>, re: f32, im: f32, mark: u8) {
+fn line(p: &mut Lines, re: f32, im: f32, mark: u8) {
     spaced(p, re);
     spaced(p, im);
     p.count(u64::from(mark));
     p.words(b"\n");
 }
 
-// No line is as long.
-const LINE: usize = 128;
-
 // Writes a page that has no room for another line, and begins it anew.
-fn turned(to: &mut Sink<'_>, p: &mut Page<8192>) -> io::Result<()> {
+fn turned(to: &mut Sink<'_>, p: &mut Lines) -> io::Result<()> {
     if p.room() > LINE {
         return Ok(());
     }
@@ -180,9 +174,8 @@ fn turned(to: &mut Sink<'_>, p: &mut Page<8192>) -> io::Result<()> {
 }
 
 // The symbols as lines of text.
-fn lines(output: Sink<'_>, y: &[f32], marks: &[u8]) -> io::Result<()> {
-    let mut to = output;
-    let mut p: Page<8192> = Page::new();
+fn lines(mut to: Sink<'_>, y: &[f32], marks: &[u8]) -> io::Result<()> {
+    let mut p = Lines::new();
     let (symbols, _) = y.as_chunks::<2>();
     for ([re, im], mark) in symbols.iter().zip(marks) {
         line(&mut p, *re, *im, *mark);
@@ -192,7 +185,7 @@ fn lines(output: Sink<'_>, y: &[f32], marks: &[u8]) -> io::Result<()> {
 }
 
 // A point of the learning curve: the samples so far, the mean error and the mode.
-fn point(p: &mut Page<128>, t: Tally, s: EqualizeState) {
+fn point(p: &mut Page<LINE>, t: Tally, s: EqualizeState) {
     p.count(t.samples);
     p.words(b" ");
     spaced(p, s.mse);
@@ -204,7 +197,7 @@ fn drawn(curve: Option<Sink<'_>>, t: Tally, s: EqualizeState) -> io::Result<()> 
     let Some(mut to) = curve else {
         return Ok(());
     };
-    let mut p: Page<128> = Page::new();
+    let mut p: Page<LINE> = Page::new();
     point(&mut p, t, s);
     to.write_all(p.bytes())
 }
@@ -215,50 +208,45 @@ struct Span {
     at: usize,
     to: usize,
     ghost ordered: { at ≤ to },
-    ghost within: { to ≤ 4096 },
+    ghost within: { to ≤ MOST },
 }
 
-impl Span {
-    fn len(self) -> usize
-        ensures { result ≡ self.to - self.at }
-    {
-        self.to - self.at
-    }
-}
-
-// The bytes and marks of at most 4,096 samples: as they were read, and what the calls gave.
+// The samples that are read at once, as bytes and as floats, and what the calls gave: symbols, as floats and as bytes, and marks.
 #[derive(Drop)]
 struct Room {
     raw: [u8; BYTES],
+    x: [f32; FLOATS],
+    y: [f32; FLOATS],
     out: [u8; BYTES],
     marks: [u8; MOST],
 }
 
 impl Room {
-    // One call on some samples, with room for N floats.
-    fn equalize<const N: usize>(
+    // One call on some samples.
+    fn equalize(
         &mut self,
         path: Path,
         state: EqualizeState,
         weights: &mut [f32],
         window: &mut [f32],
         span: Span,
-    ) -> Result<EqualizeState, Error>
-        requires { (2 * (span.to - span.at) ≤ N) × (N ≤ 8192) }
-    {
+    ) -> Result<EqualizeState, Error> {
         let Span { at, to } = span;
-        let n = 2 * span.len();
-        let mut x = [0.0f32; N];
-        let mut y = [0.0f32; N];
-        let Room { raw, out, marks } = self;
+        let Room {
+            raw,
+            x,
+            y,
+            out,
+            marks,
+        } = self;
         let e = cf32_block::block(
             path,
             state,
             weights,
             window,
             &raw[8 * at..8 * to],
-            &mut x[..n],
-            &mut y[..n],
+            &mut x[2 * at..2 * to],
+            &mut y[2 * at..2 * to],
             &mut out[8 * at..8 * to],
             &mut marks[at..to],
         );
@@ -266,8 +254,13 @@ impl Room {
         Ok(e.state)
     }
 
-    // The bytes of the symbols.
-    fn symbols(&self, span: Span) -> &[u8] {
+    // The symbols.
+    fn symbols(&self, span: Span) -> &[f32] {
+        &self.y[2 * span.at..2 * span.to]
+    }
+
+    // Their bytes.
+    fn bytes(&self, span: Span) -> &[u8] {
         &self.out[8 * span.at..8 * span.to]
     }
 
@@ -294,16 +287,13 @@ struct Stream<'a> {
 }
 
 impl Stream<'_> {
-    // One call, its marks counted and its point drawn. The room for 4,096 samples takes a while to clear.
+    // One call, its marks counted and its point drawn.
     fn call(&mut self, room: &mut Room, span: Span) -> Result<(), Ending> {
         let path = self.ways.path;
         let Progress { state, mut tally } = self.progress;
-        let called = if span.len() <= 64 {
-            room.equalize::<128>(path, state, self.weights, self.window, span)
-        } else {
-            room.equalize::<FLOATS>(path, state, self.weights, self.window, span)
-        };
-        let state = called.map_err(Ending::Refused)?;
+        let state = room
+            .equalize(path, state, self.weights, self.window, span)
+            .map_err(Ending::Refused)?;
         for mark in room.marks(span) {
             tally.add(*mark);
         }
@@ -339,12 +329,9 @@ impl Stream<'_> {
             return Ok(());
         };
         if self.ways.text {
-            let mut y = [0.0f32; FLOATS];
-            let y = &mut y[..2 * span.len()];
-            cf32::floats(room.symbols(span), y);
-            return lines(to, y, room.marks(span));
+            return lines(to, room.symbols(span), room.marks(span));
         }
-        to.write_all(room.symbols(span))
+        to.write_all(room.bytes(span))
     }
 
     // Writes what the calls gave.
@@ -385,6 +372,8 @@ impl Stream<'_> {
         let want = self.ways.at_once(self.files.at_hand);
         let mut room = Room {
             raw: [0; BYTES],
+            x: [0.0; FLOATS],
+            y: [0.0; FLOATS],
             out: [0; BYTES],
             marks: [0; MOST],
         };
@@ -398,17 +387,17 @@ impl Stream<'_> {
 }
 
 pub fn all(
-    o: Ways,
-    f: Files<'_>,
-    start: EqualizeState,
+    ways: Ways,
+    files: Files<'_>,
+    state: EqualizeState,
     weights: &mut [f32],
     window: &mut [f32],
 ) -> Done {
     let mut stream = Stream {
-        ways: o,
-        files: f,
+        ways,
+        files,
         progress: Progress {
-            state: start,
+            state,
             tally: Tally::default(),
         },
         weights,

@@ -2,8 +2,8 @@
 use Rattle.std.proofs.Common.{◌≡◌, ◌-◌, ◌≤◌, length}
 use Rattle.equalizer_stream.proofs.fill.Given as goal
 
-abbrev pub invariant-loop-bytes : goal.invariant-loop-bytes
-invariant-loop-bytes l = (l.bytes ≤ length l.raw) × (length l.raw ≡ length l.fn.raw)
+abbrev pub invariant-loop-raw : goal.invariant-loop-raw
+invariant-loop-raw l = (l.bytes ≤ length l.raw) × (length l.raw ≡ length l.fn.raw)
 
-abbrev pub decreases-loop-bytes : goal.decreases-loop-bytes
-decreases-loop-bytes l = length l.raw - l.bytes
+abbrev pub decreases-loop-raw : goal.decreases-loop-raw
+decreases-loop-raw l = length l.raw - l.bytes
