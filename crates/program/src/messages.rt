@@ -23,7 +23,7 @@ pub enum Part<'a> {
     Reason(Error),
 }
 
-// A line, of two long names at least.
+// A line, which two of the longest names would fill; what finds no room is left out.
 type Line = Page<8192>;
 
 // Something is not as it should be, and a line says what.
