@@ -6,8 +6,9 @@ mod outputs;
 mod report;
 
 ghost use Rattle.std.specs.Prelude.{◌≤◌};
+ghost use Rattle.equalizer_body.specs.declared.TheConstants.{MOST_PARTS};
 
-use crate::options::Options;
+use crate::options::{MOST_TAPS, Options};
 use crate::outputs::Outputs;
 use program::arguments::Name;
 use program::messages::Part::Words;
@@ -118,12 +119,14 @@ fn is_ready(p: Program<'_>, o: &Options) -> Result<(), Status> {
     Ok(())
 }
 
+// The most floats that the taps have, forward and feedback taps.
+const MOST_PARTS: usize = 4 * MOST_TAPS;
+
 // The floats of all taps.
 fn parts_of(o: &Options) -> usize
-    ensures { result ≤ 4096 }
+    ensures { result ≤ MOST_PARTS }
 {
-    let most = usize::from(options::MOST_TAPS);
-    2 * (o.taps.min(most) + o.params.feedback_taps.min(most))
+    2 * (o.taps.min(MOST_TAPS) + o.params.feedback_taps.min(MOST_TAPS))
 }
 
 // The equalizer of a run: its record, and room for weights and window, of which `parts` floats are used. No `ArrayVec`: two would have a length each,
@@ -131,17 +134,17 @@ fn parts_of(o: &Options) -> usize
 #[derive(Drop)]
 struct Equalizer {
     state: EqualizeState,
-    weights: [f32; 4096],
-    window: [f32; 4096],
+    weights: [f32; MOST_PARTS],
+    window: [f32; MOST_PARTS],
     parts: usize,
-    ghost within: { parts ≤ 4096 },
+    ghost within: { parts ≤ MOST_PARTS },
 }
 
 impl Equalizer {
     fn new(p: Program<'_>, o: &Options) -> Result<Equalizer, Status> {
         is_ready(p, o)?;
-        let mut weights = [0.0f32; 4096];
-        let mut window = [0.0f32; 4096];
+        let mut weights = [0.0f32; MOST_PARTS];
+        let mut window = [0.0f32; MOST_PARTS];
         let parts = parts_of(o);
         let state = equalize_state::new(
             &mut weights[..parts],

@@ -124,10 +124,10 @@ fn narrow_of(t: &[u8]) -> Option<f32> {
 }
 
 // Up to so many taps of each kind are handed to `new`, which says which it takes.
-pub(crate) const MOST_TAPS: u16 = 999;
+pub(crate) const MOST_TAPS: usize = 999;
 
 fn taps_of(t: &[u8]) -> Option<usize> {
-    usize::try_from(numbers::whole_of(t, u64::from(MOST_TAPS))?).ok()
+    usize::try_from(numbers::whole_of(t, MOST_TAPS as u64)?).ok()
 }
 
 // `never` is the count that is not reached.
@@ -139,7 +139,7 @@ fn symbols_of(t: &[u8]) -> Option<u32> {
 }
 
 fn block_of(t: &[u8]) -> Option<usize> {
-    let n = usize::try_from(numbers::whole_of(t, 4096)?).ok()?;
+    let n = usize::try_from(numbers::whole_of(t, equalizer_stream::MOST as u64)?).ok()?;
     (n > 0).then_some(n)
 }
 

@@ -62,9 +62,12 @@ pub(crate) fn fault(p: Program<'_>, f: Fault) -> Told {
     }
 }
 
+// A refusal, a mode, or the counts.
+type Phrase = Page<256>;
+
 // What a value is in words.
-fn in_words<T: fmt::Display + Copy>(value: T) -> Page<256> {
-    let mut words = Page::new();
+fn in_words<T: fmt::Display + Copy>(value: T) -> Phrase {
+    let mut words = Phrase::new();
     let _ = write!(words, "{value}");
     words
 }
@@ -80,7 +83,7 @@ pub(crate) fn refused(p: Program<'_>, e: types::Error) -> Told {
 
 // Bytes that are no marks are named only where there are some.
 fn counts(p: Program<'_>, t: Tally) {
-    let mut line: Page<256> = Page::new();
+    let mut line = Phrase::new();
     let _ = write!(
         line,
         "{} samples: {} heard, {} blank, {} spilled",
@@ -168,13 +171,10 @@ pub(crate) fn about(p: Program<'_>, about: About) -> Result<(), Status> {
         About::Help => HELP,
         About::Version => VERSION,
     };
-    match p.rt.stdout().write_all(text) {
-        Ok(()) => Ok(()),
-        Err(e) => {
-            unwritten(p, Name::Standard, e);
-            Err(Status::Failed)
-        }
-    }
+    p.rt.stdout().write_all(text).map_err(|e| {
+        unwritten(p, Name::Standard, e);
+        Status::Failed
+    })
 }
 
 const VERSION: &[u8] = b"equalizer 0.1.0\n";
