@@ -1,4 +1,4 @@
--- Between: loops that replace elements. Places: lanes that stay. Powers: the window's power from squares made ahead.
+-- Between: loops that replace elements. Places: lanes that stay, places by their numbers. Powers: the window's power from squares made ahead.
 pub mod Between
 pub mod Places
 pub mod Powers

@@ -1,4 +1,4 @@
--- ChainLoop: one step of the loop. Windows, Representation, Measurement, Sample: one sample, up to `sample_holds`.
+-- ChainLoop: the chain of the power. Windows, Representation, Measurement, Sample: one sample, up to `sample_holds`.
 pub mod ChainLoop
 pub mod Windows
 pub mod Representation

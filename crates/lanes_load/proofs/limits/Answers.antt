@@ -1,4 +1,5 @@
 -- `limits` gives each lane its limit: infinities, and TINY filled in where the weights are.
+-- By an answer: what `fill` fills in stands behind a premise on its copies, where no tactic finds the law.
 use Rattle.lanes_load.proofs.LaneLimits.{limits-are}
 use Rattle.lanes_load.proofs.limits.Goals as goal
 

@@ -1,4 +1,5 @@
 -- `enter` puts the samples of a run in, newest first: each turn of its loop puts one in, by the law of that loop.
+-- By an answer: `grind` opens the record that the law is about, and stops at its limit of instances.
 use Rattle.lanes_prepare.proofs.Entry.{entry_more}
 use mathlib.Core.Path.{◌∙◌}
 use native.Mathlib.Omega.{arith}
