@@ -97,12 +97,12 @@ pub fn block(
         (equalizer result weights.new window.new) output.new marks.new }
 {
     let mut s = state;
-    // by the place, which input and output need too: numbers of an interleaved slice
-    for i in 0..marks.len() {
+    // by the place, which input and output need: numbers of an interleaved slice
+    for (i, mark) in marks.iter_mut().enumerate() {
         let x = complex::at(input, i);
         let r = sample(s, weights, window, x);
         complex::put(output, i, r.out);
-        marks[i] = u8::from(r.mark);
+        *mark = u8::from(r.mark);
         s = r.state;
     }
     s

@@ -85,7 +85,7 @@ fn sample(s: EqualizeState, call: &Call, e: Entry, w: &mut Weights, h: &mut Wind
     r.sampled(s)
 }
 
-// The samples of a run, at most RUN, which stand in the forward window, the first at RUN - 1. By an index: it is the sample's place in five arrays.
+// The samples of a run, at most RUN, which stand in the forward window, the first at RUN - 1. The index is the sample's place in four arrays more.
 pub fn run(
     state: EqualizeState,
     call: &Call,
@@ -102,7 +102,7 @@ pub fn run(
         (arrays_of w.new h.new) output.new marks.new result }
 {
     let mut s = state;
-    for k in 0..marks.len() {
+    for (k, mark) in marks.iter_mut().enumerate() {
         let at = RUN - 1 - k;
         let e = Entry {
             at,
@@ -112,7 +112,7 @@ pub fn run(
         };
         let r = sample(s, call, e, w, h);
         complex::put(output, k, r.out);
-        marks[k] = u8::from(r.mark);
+        *mark = u8::from(r.mark);
         s = r.state;
     }
     s
