@@ -17,7 +17,7 @@ use Rattle.definition.specs.Floats.{finite_c}
 use Rattle.definition.specs.Slices.{shifted, dot_complex, power}
 use Rattle.definition.specs.Phase.{cos_sin}
 use Rattle.definition.specs.Packed.{equalizer}
-use Rattle.definition.specs.Sample.{Did, sanitized, step1, step2, mu_of, step_size, update_of, adapted, tracked, hear, heard_as, step3, fed_in, advance, step8, sample_def}
+use Rattle.definition.specs.Sample.{sanitized, step1, step2, mu_of, step_size, update_of, adapted, tracked, hear, heard_as, step3, fed_in, step8, sample_def}
 use Rattle.definition.specs.Sample as sample
 use Rattle.definition.specs.Rules.{rule_r4, accepted_def, TapCounts}
 use Rattle.definition_laws.proofs.Accept.{Accepted, accepted_parts, shape}
