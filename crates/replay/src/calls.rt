@@ -32,8 +32,7 @@ struct Case<'a> {
 impl Case<'_> {
     fn of(w: &[u64]) -> Option<Case<'_>> {
         let (record, w) = w.split_first_chunk()?;
-        let (sizes, mut w) = w.split_first_chunk()?;
-        let sizes: &[u64; 3] = sizes;
+        let (sizes, mut w) = w.split_first_chunk::<3>()?;
         let [n, k1, k2] = sizes.map(|size| size as usize);
         if n > MOST_TAPS || k1 > MOST_SAMPLES || k2 > MOST_SAMPLES - k1 {
             return None;
