@@ -198,17 +198,16 @@ impl EqReply {
     fn refused(record: EqRecord, e: Error) -> EqReply
         ensures { result ≡ replied «record» (reply_of (Err e)) }
     {
-        let reply = EqReply {
-            number: u32::from(e),
-            ..EqReply::served(record)
+        let none = Lengths {
+            expected: 0,
+            got: 0,
         };
-        match e.lengths() {
-            Some(Lengths { expected, got }) => EqReply {
-                expected,
-                got,
-                ..reply
-            },
-            None => reply,
+        let Lengths { expected, got } = e.lengths().unwrap_or(none);
+        EqReply {
+            record,
+            number: u32::from(e),
+            expected,
+            got,
         }
     }
 
