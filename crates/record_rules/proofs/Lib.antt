@@ -2,4 +2,3 @@
 pub mod Bits
 pub mod Elements
 pub mod Ranges
-pub mod Records

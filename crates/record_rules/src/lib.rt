@@ -83,7 +83,7 @@ pub fn forward(n: usize, m: usize) -> usize
 }
 
 // R1: the taps, by the lengths of weights and window.
-#[tactic(auto, using(crate::proofs::Records::r1_is))]
+#[tactic(auto, unfolding(definition::specs::Rules::rule_r1))]
 pub fn rule_r1(s: EqualizeState, w: &[f32], h: &[f32]) -> bool
     ensures { result ≡ rule_r1 (equalizer s w.now h.now) }
 {
@@ -93,7 +93,7 @@ pub fn rule_r1(s: EqualizeState, w: &[f32], h: &[f32]) -> bool
 }
 
 // R2: step sizes and bandwidth, and the gains, which are exactly those of the bandwidth.
-#[tactic(auto, using(crate::proofs::Records::r2_is))]
+#[tactic(auto, unfolding(definition::specs::Rules::rule_r2, definition::specs::Gains::loop_gains))]
 pub fn rule_r2(s: EqualizeState) -> bool
     ensures { result ≡ rule_r2 s }
 {
@@ -129,7 +129,7 @@ fn rule_r3(s: EqualizeState, w: &[f32], h: &[f32]) -> bool
 }
 
 // R4: the count, by the mode.
-#[tactic(auto, using(crate::proofs::Records::r4_never, crate::proofs::Records::r4_cma, crate::proofs::Records::r4_decision))]
+#[tactic(auto, unfolding(definition::specs::Rules::rule_r4, definition::specs::Rules::count_fits))]
 fn rule_r4(s: EqualizeState) -> bool
     ensures { result ≡ rule_r4 s }
 {
