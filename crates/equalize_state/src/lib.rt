@@ -16,7 +16,7 @@ fn start_over(w: &mut [f32], h: &mut [f32], m: usize)
     ensures { (w.new ≡ start_weights (length w.old / 2) ((length w.old / 2 - m) / 2)) × (h.new ≡ zeros (2 * (length w.old / 2))) }
 {
     let n = w.len() / 2;
-    record_start::start_weights(w, n, record_rules::forward(n, m));
+    record_start::start_weights(w, n, n.saturating_sub(m));
     record_start::clear(h);
 }
 

@@ -75,21 +75,12 @@ fn freq_fits(v: f32) -> bool
     plus_zero(v) | (numeric::TINY..=EqualizeState::PHASE_MAX_FREQ).contains(&a)
 }
 
-// n - m, or 0 where there are fewer. Of numbers, since `new` asks it before there is a record; of a record, `EqualizeState::taps` says it.
-pub fn forward(n: usize, m: usize) -> usize
-    ensures { result ≡ n - m }
-{
-    n.saturating_sub(m)
-}
-
 // R1: the taps, by the lengths of weights and window.
 #[tactic(auto, unfolding(definition::specs::Rules::rule_r1))]
 pub fn rule_r1(s: EqualizeState, w: &[f32], h: &[f32]) -> bool
     ensures { result ≡ rule_r1 (equalizer s w.now h.now) }
 {
-    let m = s.params.feedback_taps;
-    let n = w.len() / 2;
-    feedback_fits(m) & taps_fit(forward(n, m)) & (n == h.len() / 2)
+    feedback_fits(s.params.feedback_taps) & taps_fit(s.taps(w)) & (w.len() / 2 == h.len() / 2)
 }
 
 // R2: step sizes and bandwidth, and the gains, which are exactly those of the bandwidth.

@@ -56,10 +56,7 @@ fn taps_verdict(p: EqParams, lw: usize, lh: usize) -> Result<(), Error>
     let got = lh / 2;
     let m = p.feedback_taps;
     ensure(record_rules::feedback_fits(m), Error::Feedback)?;
-    ensure(
-        record_rules::taps_fit(record_rules::forward(len, m)),
-        Error::Taps,
-    )?;
+    ensure(record_rules::taps_fit(len.saturating_sub(m)), Error::Taps)?;
     ensure(got == len, Error::Window { expected: len, got })?;
     settings_verdict(p)
 }
