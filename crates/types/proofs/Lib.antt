@@ -1,4 +1,2 @@
--- Laws that belong to no one function: the start; a case and its number; a text that is no word.
-pub mod Starts
+-- Laws that belong to no one function: a case and its number.
 pub mod Numbered
-pub mod Worded

@@ -169,14 +169,15 @@ impl Default for EqParams {
 }
 
 // The mode at the start: Decision where cma_symbols is 0.
-#[tactic(auto, using(crate::proofs::Starts::mode_none, crate::proofs::Starts::mode_some))]
+#[tactic(auto, unfolding(crate::specs::Start::start_mode))]
 fn start_mode(cma_symbols: u32) -> EqMode
     ensures { result ≡ start_mode cma_symbols }
 {
     if cma_symbols == 0 {
-        return EqMode::Decision;
+        EqMode::Decision
+    } else {
+        EqMode::Cma
     }
-    EqMode::Cma
 }
 
 impl EqualizeState {

@@ -89,7 +89,9 @@ impl TryFrom<u8> for Mark {
             Mark::HEARD => Ok(Mark::Heard),
             Mark::BLANK => Ok(Mark::Blank),
             Mark::SPILLED => Ok(Mark::Spilled),
-            _ => Err(UnknownNumber { number: n as u32 }),
+            _ => Err(UnknownNumber {
+                number: u32::from(n),
+            }),
         }
     }
 }

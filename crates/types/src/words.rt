@@ -54,7 +54,6 @@ pub struct UnknownWord;
 impl TryFrom<&[u8]> for EqConstellation {
     type Error = UnknownWord;
 
-    #[tactic(auto, using(crate::proofs::Worded::no_word))]
     fn try_from(word: &[u8]) -> Result<EqConstellation, UnknownWord>
         ensures { result ≡ constellation_with word.now }
     {
