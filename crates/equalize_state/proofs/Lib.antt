@@ -1,2 +1,2 @@
--- Laws of `new` and `reset`.
+-- Starts: what the tests of `new` and `reset` say of the lengths.
 pub mod Starts

@@ -1,4 +1,4 @@
--- `new` and `reset`: one law for each exit, and what the start asks of the lengths. Assumes nothing.
+-- `new` and `reset`: where the tests are passed, the lengths are what `start_over` asks. Assumes nothing.
 use Prim.Native.Nat.{ℕ, ◌*◌, ◌-◌, ◌/◌, ◌%◌, ◌≤◌}
 use mathlib.Core.Path.{◌≡◌, sym, ◌∙◌, subst}
 use mathlib.Core.Bool.{true, ◌&&◌}
@@ -10,16 +10,12 @@ use borrow.Author.Tests.{eqb-true}
 use lib.Ieee.{Float}
 use Rattle.types.specs.declared.EqParams.{EqParams}
 use Rattle.types.specs.declared.EqualizeState.{EqualizeState}
-use Rattle.types.specs.declared.Equalized.{Equalized}
-use Rattle.std.specs.Prelude.{Ok, Err}
+use Rattle.std.specs.Prelude.{Ok}
 use Rattle.definition.specs.Refusals.{Outcome}
-use Rattle.types.specs.declared.Error.{Error}
 use Rattle.types.specs.declared.Error.TheVariants.{Odd, Feedback, Taps, Record}
-use Rattle.types.specs.Start.{start_state}
-use Rattle.definition.specs.Slices.{zeros, start_weights}
-use Rattle.definition.specs.Packed.{equalizer, made, reset_to}
+use Rattle.definition.specs.Packed.{equalizer}
 use Rattle.definition.specs.Rules.{feedback_fits, taps_fit, rule_r1, rule_r2}
-use Rattle.definition.specs.Calls.{even, new_tests, new_verdict, start_over, fresh_state, new_def, reset_verdict, reset_def}
+use Rattle.definition.specs.Calls.{even, new_tests, new_verdict, reset_verdict}
 use Rattle.std.proofs.lemmas.Bool.{and_parts}
 use Rattle.definition_laws.proofs.Verdicts.{fine}
 
@@ -47,27 +43,9 @@ module _ (p : EqParams) (w h : List Float) (v : Outcome) (e : v ≡ new_verdict 
       let B : 3 ≤ length w / 2 - p.feedback_taps = fits_some _ z.0 in
       (omega arith, (omega arith, omega arith))
 
-  pub new_refused : (x : Error) → v ≡ Err x → made (Err x) w h ≡ new_def p w h
-  unfolding new_def
-  new_refused x d = rw (← e, d)
-
-  pub new_done : v ≡ (Ok tt) → (t : EqualizeState) (w' h' : List Float) → t ≡ fresh_state p
-      → w' ≡ start_weights (length w / 2) ((length w / 2 - p.feedback_taps) / 2) → h' ≡ zeros (2 * (length w / 2)) → made (Ok t) w' h' ≡ new_def p w h
-  unfolding new_def start_over fresh_state start_state
-  new_done d t w' h' b c k = rw (← e, d, b, c, k)
-
 -- ---- reset
 
 module _ (s : EqualizeState) (w h : List Float) (v : Outcome) (p : v ≡ reset_verdict (equalizer s w h)) where
-  pub reset_refused : (e : Error) → v ≡ Err e → reset_to (record { state = s; outcome = Err e }) w h ≡ reset_def (equalizer s w h)
-  unfolding reset_def
-  reset_refused e d = rw (← p, d)
-
-  pub reset_done : v ≡ (Ok tt) → (t : EqualizeState) (r : Equalized) (w' h' : List Float) → t ≡ start_state s.params s.kp s.ki
-      → w' ≡ start_weights (length w / 2) ((length w / 2 - s.params.feedback_taps) / 2) → h' ≡ zeros (2 * (length w / 2)) → r ≡ record { state = t; outcome = Ok tt } → reset_to r w' h' ≡ reset_def (equalizer s w h)
-  unfolding reset_def start_over start_state
-  reset_done d t r w' h' b c k z = rw (z, ← p, d, b, c, k)
-
   pub reset_fits : v ≡ (Ok tt)
       → (length w ≡ 2 * (length w / 2)) × ((length h ≡ 2 * (length w / 2)) × (1 ≤ length w / 2 - s.params.feedback_taps))
   unfolding reset_verdict rule_r1

@@ -30,7 +30,7 @@ fn fresh_state(params: EqParams) -> EqualizeState
 }
 
 // A new equalizer: weights and window are set, and the record is returned. Refusals 1 to 7 leave both as they were.
-#[tactic(auto, using(crate::proofs::Starts::new_refused, crate::proofs::Starts::new_fits, crate::proofs::Starts::new_done))]
+#[tactic(auto, unfolding(definition::specs::Calls::new_def, definition::specs::Calls::start_over, definition::specs::Calls::fresh_state, types::specs::Start::start_state), using(crate::proofs::Starts::new_fits))]
 pub fn new(
     weights: &mut [f32],
     window: &mut [f32],
@@ -44,7 +44,7 @@ pub fn new(
 }
 
 // Back to the start, with the settings and gains kept. Refusals 1 and 8.
-#[tactic(auto, using(crate::proofs::Starts::reset_refused, crate::proofs::Starts::reset_fits, crate::proofs::Starts::reset_done))]
+#[tactic(auto, unfolding(definition::specs::Calls::reset_def, definition::specs::Calls::start_over, types::specs::Start::start_state), using(crate::proofs::Starts::reset_fits))]
 pub fn reset(state: EqualizeState, weights: &mut [f32], window: &mut [f32]) -> Equalized
     ensures { reset_to result weights.new window.new ≡ reset_def (equalizer state weights.old window.old) }
 {
