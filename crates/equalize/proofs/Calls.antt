@@ -1,4 +1,4 @@
--- An equalizing call: one law for each exit. Assumes nothing.
+-- An equalizing call that is served: its lengths are what the samples ask, and its answer is the definition's. Assumes nothing.
 use Prim.Native.Nat.{ℕ}
 use mathlib.Core.Path.{◌≡◌, sym, ◌∙◌}
 use mathlib.Core.List.{List, []}
@@ -6,8 +6,7 @@ use native.Mathlib.Omega.{arith}
 use lib.Ieee.{Float}
 use Rattle.types.specs.declared.EqualizeState.{EqualizeState}
 use Rattle.types.specs.declared.Equalized.{Equalized}
-use Rattle.types.specs.declared.Error.{Error}
-use Rattle.std.specs.Prelude.{Ok, Err}
+use Rattle.std.specs.Prelude.{Ok}
 use Rattle.definition.specs.Refusals.{Outcome}
 use Rattle.definition.specs.Slices.{samples_of}
 use Rattle.definition.specs.Packed.{equalizer, answered, ServedBlock, Ran}
@@ -21,10 +20,6 @@ module _ (s : EqualizeState) (w h xs ys : List Float) (ms : List ℕ) (v : Outco
   call_shaped e =
       let f = served_fits (equalizer s w h) xs ys ms (sym p ∙ e) in
       record { accepted = f.accepted; input = omega (arith, f.even_in, f.marks); output = omega (arith, f.even_in, f.even_out, f.marks, f.output) }
-
-  pub call_refused : (e : Error) (r : Equalized) → v ≡ Err e → r ≡ record { state = s; outcome = Err e } → answered r w h ys ms ≡ equalize_def (equalizer s w h) xs ys ms
-  unfolding equalize_def
-  call_refused e r d z = rw (z, ← p, d)
 
   pub call_served : v ≡ (Ok tt) → (t : EqualizeState) (e : Equalized) (w' h' ys' : List Float) (ms' : List ℕ) → Ran (run_def (equalizer s w h) (samples_of xs)) (equalizer t w' h') ys' ms'
       → e ≡ record { state = t; outcome = Ok tt } → answered e w' h' ys' ms' ≡ equalize_def (equalizer s w h) xs ys ms

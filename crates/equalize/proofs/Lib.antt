@@ -1,2 +1,2 @@
--- An equalizing call: one law for each exit.
+-- An equalizing call that is served: its lengths and its answer.
 pub mod Calls

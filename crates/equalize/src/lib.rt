@@ -81,6 +81,7 @@ fn equalize_paths(
 }
 
 // A block of samples, or a refusal (1, 8, 9, 10) that leaves all as it was. Same answer as `reference::equalize`.
+#[tactic(auto, unfolding(definition::specs::Calls::equalize_def), using(crate::proofs::Calls::call_shaped, crate::proofs::Calls::call_served))]
 pub fn equalize(
     state: EqualizeState,
     weights: &mut [f32],
