@@ -1,2 +1,2 @@
--- The count and the mode after a sample.
+-- Counts: the count below the samples of Cma.
 pub mod Counts

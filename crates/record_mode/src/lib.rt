@@ -9,7 +9,7 @@ use types::{EqMode, EqParams, EqualizeState};
 
 // The count and the mode after a sample. R4 is asked here, and is no invariant of the record: that goes by value with free fields, as the specification
 // has it, and a call tests it.
-#[tactic(auto, using(crate::proofs::Counts::adv_never, crate::proofs::Counts::adv_decision, crate::proofs::Counts::adv_more, crate::proofs::Counts::adv_switch, crate::proofs::Counts::count_below))]
+#[tactic(auto, unfolding(definition::specs::Sample::advance, definition::specs::Sample::advance_in), using(crate::proofs::Counts::count_below))]
 pub fn advance(s: EqualizeState) -> EqualizeState
     requires { rule_r4 s ≡ true }
     ensures { result ≡ advanceDef s }
