@@ -201,14 +201,16 @@ fn aim_of(s: EqualizeState, t: CosSin, y: C32, d: C32, e: C32) -> Aim
 }
 
 // The update by the step size m and the error e, or none.
-#[tactic(auto, unfolding(crate::specs::Step::update_if, definition::specs::Floats::scaled_c, definition::specs::Floats::finite_c))]
+#[tactic(auto, unfolding(crate::specs::Step::update_if, definition::specs::Floats::scaled_c))]
 fn update_of(live: bool, e: C32, m: f32) -> Update
     ensures { result ≡ update_if live (scaled_c m e) }
 {
-    let re = m * e.re;
-    let im = m * e.im;
-    if live & numeric::is_finite(re) & numeric::is_finite(im) {
-        Update::Step(re, im)
+    let g = C32 {
+        re: m * e.re,
+        im: m * e.im,
+    };
+    if live & numeric::finite_c(g) {
+        Update::Step(g.re, g.im)
     } else {
         Update::Hold
     }
