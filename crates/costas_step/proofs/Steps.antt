@@ -203,7 +203,19 @@ of_infinity : (t : Bool) → is_sign_negative (inf t) ≡ t
 unfolding is_sign_negative
 of_infinity t = refl
 
-module _ (v : Float) (F : T (fits binary32 v)) (N : T (not (is_nan v))) where
+pub of_nan : (x : Float) (b : Bool) → b ≡ is_nan x → b ≡ true → 0 ≡ phase_step x
+unfolding phase_step step_int is_nan
+of_nan nan b e h = refl
+of_nan (inf s) b e h = absurd (subst T (sym h ∙ e) tt)
+of_nan (fin s m k) b e h = absurd (subst T (sym h ∙ e) tt)
+
+module _ (v : Float) (fit : fits binary32 v ≡ true) (none : is_nan v ≡ false) where
+  F : T (fits binary32 v)
+  F = subst T (sym fit) tt
+
+  N : T (not (is_nan v))
+  N = subst (λ (b : Bool). T (not b)) (sym none) tt
+
   abbrev b : ℕ
   b = to_bits binary32 v
 

@@ -24,6 +24,7 @@ fn magnitude(exp: u32, sig: u32, minus: bool) -> u32
 }
 
 // The phase step floor(v * 2^32 + 1/2), held to an i64, low 32 bits, from the bits of v. A NaN gives 0.
+#[tactic(auto, using(crate::proofs::Steps::of_nan, crate::proofs::Steps::tiny, crate::proofs::Steps::huge, crate::proofs::Steps::huge_minus, crate::proofs::Steps::plain, crate::proofs::Steps::negated))]
 pub fn phase_step_f32(v: f32) -> u32
     ensures { result ≡ phase_step v }
 {
