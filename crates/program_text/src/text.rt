@@ -2,25 +2,22 @@
 ghost use Rattle.std.specs.Prelude.{◌≡◌, ℕ, ◌-◌, ◌≤◌, List, [], length, take};
 ghost use Rattle.program_text.specs.Pages.{written, numeral, entry_of};
 
+use arrayvec::ArrayVec;
 use std::fmt;
 use std::fmt::Write;
 use std::marker::Model;
 
-// A page of N bytes, and how many of them are used. No `ArrayVec` inside: it takes all of a text or none, so that `words` would cut as it does here,
-// and its `clear` blanks what is used.
+// A page of N bytes.
 #[derive(Drop)]
 pub struct Page<const N: usize> {
-    bytes: [u8; N],
-    used: usize,
+    bytes: ArrayVec<u8, N>,
 }
 
 // Clauses see what stands on the page.
 impl<const N: usize> Model for Page<N> {
     ghost Value = { List ℕ };
 
-    ghost view = { λ p. take p.used p.bytes };
-
-    ghost invariant = { λ p. p.used ≤ N };
+    ghost view = { λ p. p.bytes.items };
 }
 
 impl<const N: usize> Page<N> {
@@ -29,40 +26,37 @@ impl<const N: usize> Page<N> {
         ensures { result ≡ [] }
     {
         Page {
-            bytes: [0; N],
-            used: 0,
+            bytes: ArrayVec::new(),
         }
     }
 
     pub fn clear(&mut self)
         ensures { self.new ≡ [] }
     {
-        self.used = 0;
+        self.bytes.clear();
     }
 
     // How many bytes find room.
     pub fn room(&self) -> usize
         ensures { result ≡ N - length self.now }
     {
-        N - self.used
+        self.bytes.remaining_capacity()
     }
 
     // What stands on the page.
     pub fn bytes(&self) -> &[u8]
         ensures { result.now ≡ self.now }
     {
-        &self.bytes[..self.used]
+        self.bytes.as_slice()
     }
 
     // Writes a text behind what stands on the page, as far as there is room.
-    #[tactic(auto, using(crate::proofs::Laying::copied_is))]
+    #[tactic(auto, using(crate::proofs::Laying::laid_is, crate::proofs::Laying::room_for))]
     pub fn words(&mut self, t: &[u8])
         ensures { self.new ≡ written N self.old t.now }
     {
-        let n = t.len().min(N - self.used);
-        let all = &mut self.bytes[..];
-        all[self.used..self.used + n].copy_from_slice(&t[..n]);
-        self.used += n;
+        let n = t.len().min(self.bytes.remaining_capacity());
+        let _ = self.bytes.try_extend_from_slice(&t[..n]);
     }
 
     // The text of a number in a list of texts with a line end behind each, counted from 0. The program here prints none; what it promises stays.
