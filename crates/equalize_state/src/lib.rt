@@ -17,7 +17,7 @@ fn start_over(w: &mut [f32], h: &mut [f32], m: usize)
 {
     let n = w.len() / 2;
     record_start::start_weights(w, n, n.saturating_sub(m));
-    record_start::clear(h);
+    h.fill(0.0);
 }
 
 // The record at the start, with the gains of its bandwidth.

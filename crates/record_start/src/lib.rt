@@ -1,15 +1,8 @@
-// Weights and window at the start.
+// The weights at the start.
 #![tactic(auto)]
 
 ghost use Rattle.std.specs.Prelude.{◌≡◌, ◌*◌, ◌/◌, ◌≤◌, length};
-ghost use Rattle.definition.specs.Slices.{zeros, start_weights};
-
-// +0 everywhere.
-pub fn clear(x: &mut [f32])
-    ensures { x.new ≡ zeros (length x.old) }
-{
-    x.fill(0.0);
-}
+ghost use Rattle.definition.specs.Slices.{start_weights};
 
 // The start weights, n of them: the centre forward tap at 1, the others at 0.
 #[tactic(auto, using(definition_laws::proofs::Mapped::start_is))]
@@ -17,7 +10,7 @@ pub fn start_weights(w: &mut [f32], n: usize, taps: usize)
     requires { (length w.old ≡ 2 * n) × ((1 ≤ taps) × (taps ≤ n)) }
     ensures { w.new ≡ start_weights n (taps / 2) }
 {
-    clear(w);
+    w.fill(0.0);
     let j = 2 * (taps / 2);
     w[j] = 1.0;
 }
