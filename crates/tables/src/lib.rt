@@ -522,6 +522,7 @@ pub const COS_BITS: [u32; 4097] = [
 ];
 
 // Entry k, as its bits.
+#[tactic(auto, unfolding(crate::specs::Table::cos_bits))]
 pub fn bits(k: usize) -> u32
     requires { k < 4097 }
     ensures { result ≡ get_or cos_bits k 0 }
@@ -530,6 +531,7 @@ pub fn bits(k: usize) -> u32
 }
 
 // Entry k.
+#[tactic(auto, unfolding(crate::specs::Table::cos_at), using(crate::proofs::Rules::a_number))]
 pub fn entry(k: usize) -> f32
     requires { k < 4097 }
     ensures { result ≡ cos_at k }
