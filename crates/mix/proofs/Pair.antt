@@ -1,10 +1,10 @@
 -- At phase 0 the table gives exactly (1, 0), by computation, so step 4 needs no test there. Assumes nothing.
-use mathlib.Core.Path.{◌≡◌, refl, ◌∙◌}
-use Prim.Native.Nat.{ℕ, zero, suc, ◌+◌, ◌/◌, ◌%◌}
+use mathlib.Core.Path.{◌≡◌, refl}
+use Prim.Native.Nat.{ℕ, zero, suc}
 use native.Mathlib.Omega.{arith}
 use borrow.Author.Tests.{ne_eqb}
 use lib.Count.{count_trailing_zeros}
-use lib.Ieee.{Float, of_bits, of_fields, odd, of_int, add, sub, mul, neg, sum, round, units, size, span, climb}
+use lib.Ieee.{of_bits, of_fields, odd, of_int, add, sub, mul, neg, sum, round, units, size, span, climb}
 use Rattle.tables.specs.Table.{cos_at, cos_bits}
 use Rattle.types.specs.Bits.{zero32, one32}
 use Rattle.definition.specs.Phase.{low_part, line_at, interp_pair, cos_sin}
@@ -17,12 +17,3 @@ pub cos_sin_is : (p : ℕ) → interp_pair p ≡ cos_sin p
 unfolding cos_sin
 cos_sin_is zero = pair_at_zero
 cos_sin_is (suc p) = rw (ne_eqb (suc p) 0 (λ (e : suc p ≡ 0). omega arith))
-
--- both promises, from what the calls give
-module _ (p i : ℕ) (f a b : Float) (low : f ≡ low_part p) (first : a ≡ line_at (p / 1048576) f) (turned : i ≡ (p / 1048576 + 3072) % 4096) (second : b ≡ line_at i f) where
-  pub pair_is : record { c = a; s = b } ≡ interp_pair p
-  unfolding interp_pair
-  pair_is = rw (first, second, turned, low)
-
-  pub turn_is : record { c = a; s = b } ≡ cos_sin p
-  turn_is = pair_is ∙ cos_sin_is p

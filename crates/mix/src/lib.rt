@@ -41,7 +41,7 @@ fn line_at(k: usize, f: f32) -> f32
 
 // (cos, sin) of the phase p: the fraction is worked out once, and the sine has the index (idx + 3072) mod 4096. These are c and s of step 4 too: at
 // phase 0 the table gives (1, 0).
-#[tactic(auto, using(crate::proofs::Pair::pair_is, crate::proofs::Pair::turn_is))]
+#[tactic(auto, unfolding(definition::specs::Phase::interp_pair), using(crate::proofs::Pair::cos_sin_is))]
 pub fn interp_f32_pair(p: u32) -> CosSin
     ensures value { result ≡ interp_pair p }
     ensures value_2 { result ≡ cos_sin p }
