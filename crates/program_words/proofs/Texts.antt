@@ -1,5 +1,5 @@
 -- What a byte divides a list into, and words in it, by the library's words for a `split` and a `position`. Assumes nothing.
-use Rattle.std.proofs.Common.{◌≡◌, ℕ, zero, suc, ◌+◌, ◌<◌, ◌≤◌, ◌⊎◌, inl, inr, Bool, true, false, cond, eqb, ltb, List, [], ◌∷◌, length, take, drop, drop_of_length-le, Some, None, unwrap_or, refl, ap, ◌∙◌, sym, arith}
+use Rattle.std.proofs.Common.{◌≡◌, ℕ, zero, suc, ◌+◌, ◌<◌, ◌≤◌, Bool, true, false, cond, eqb, ltb, List, [], ◌∷◌, length, take, Some, None, unwrap_or, refl, ap, ◌∙◌, sym, arith}
 use Rattle.std.specs.List.{position, position_or_len, position_from, slice_split, onto_first, count_by}
 use Rattle.std.specs.Cmp.Lexicographic.{pointwise}
 use Rattle.std.proofs.lemmas.List.Recursion.{is_position_or_len}
@@ -27,15 +27,6 @@ pub end_is : (d : ℕ) (l : List ℕ) → unwrap_or (position (λ b. eqb b d) l)
 end_is d l =
     let p = position_or_len (λ b. eqb b d) l in
     found_by (ltb p (length l)) p (length l) refl (prefix_len-le-length _ l) ∙ sym (before_is d l)
-
--- beyond the end there is none
-pub end_past : (d : ℕ) (t : List ℕ) (from : ℕ) → (length t < from) ⊎ (length t < length t) → from ≡ from + before d (drop from t)
-unfolding before
-end_past d t from (inl h) =
-    let k : length t ≤ from = omega arith in
-    let z : before d (drop from t) ≡ 0 = rw (drop_of_length-le t k) in
-    omega arith
-end_past d t from (inr h) = absurd (omega arith)
 
 onto_some : (b : ℕ) (ts : List (List ℕ)) → 0 < length ts → (onto b ts ≡ onto_first b ts) × (0 < length (onto b ts))
 onto_some b [] h = absurd (omega arith)

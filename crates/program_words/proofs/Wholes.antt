@@ -1,11 +1,11 @@
 -- Digits read one by one: what is counted, and their value as far as it is below 10^15. Assumes nothing.
-use Rattle.std.proofs.Common.{◌≡◌, ℕ, suc, ◌+◌, ◌-◌, ◌*◌, ◌<◌, ◌≤◌, min, Bool, true, false, cond, not, eqb, ltb, List, [], ◌∷◌, length, take, refl, sym, ap, ◌∙◌, arith, le-ltb, lt-ltb, eq-eqb, ne_eqb, le-leb, Some, None, unwrap_or}
+use Rattle.std.proofs.Common.{◌≡◌, ℕ, suc, ◌+◌, ◌-◌, ◌*◌, min, Bool, true, false, cond, not, ltb, List, [], ◌∷◌, length, take, refl, sym, ap, ◌∙◌, arith, unwrap_or}
 use Rattle.std.specs.List.{position, position_or_len, fold}
 use Rattle.std.proofs.lemmas.List.Sums.{prefix_len-le-length}
 use Rattle.std.proofs.lemmas.List.Recursion.{is_position_or_len}
-use borrow.Author.Tests.{lt-leb, ltb-false}
+use borrow.Author.Tests.{ltb-false}
 use Rattle.program_words.proofs.Texts.{found_by}
-use Rattle.program_words.specs.Wholes.{too_long, is_digit, digit_count, digit_value, with_digit, DigitsFrom, whole_of}
+use Rattle.program_words.specs.Wholes.{too_long, is_digit, digit_count, digit_value, with_digit, DigitsFrom}
 
 alike_by : (c : Bool) (l : List ℕ) (v w d : ℕ) → ((v w : ℕ) → min v too_long ≡ min w too_long → min (digit_value v l) too_long ≡ min (digit_value w l) too_long)
     → min v too_long ≡ min w too_long → min (cond c (digit_value (v * 10 + d) l) v) too_long ≡ min (cond c (digit_value (w * 10 + d) l) w) too_long
@@ -53,36 +53,3 @@ digits_are t start value count e f =
     let p = position_or_len (λ b. not (is_digit b)) t in
     let n : count ≡ digit_count t = e ∙ found_by (ltb p (length t)) p (length t) refl (prefix_len-le-length _ t) ∙ sym (count_is t) in
     (ap (λ (x : ℕ). min x too_long) (f ∙ ap (λ i. fold with_digit start (take i t)) n) ∙ folded t start, n, omega arith)
-
--- the verdict on a text, from what digits_of answers
-module _ (t : List ℕ) (most value count : ℕ) (p : DigitsFrom t 0 0 value count count) where
-  pub whole_none : count ≡ 0 → None ≡ whole_of t most
-  unfolding whole_of
-  whole_none z = rw (le-ltb 0 (digit_count t) (omega arith))
-
-  module _ (n : count ≡ 0 → ⊥) where
-    some : ltb 0 (digit_count t) ≡ true
-    some = lt-ltb 0 (digit_count t) (omega (arith, n))
-
-    pub whole_part : (count ≡ length t → ⊥) → None ≡ whole_of t most
-    unfolding whole_of
-    whole_part m = rw (some, ne_eqb (digit_count t) (length t) (λ e. m (omega arith)))
-
-    module _ (m : count ≡ length t) where
-      all : eqb (digit_count t) (length t) ≡ true
-      all = eq-eqb (digit_count t) (length t) (omega arith)
-
-      pub whole_long : too_long ≤ value → None ≡ whole_of t most
-      unfolding whole_of
-      whole_long h = rw (some, all, le-ltb (digit_value 0 t) too_long (omega arith))
-
-      module _ (h : value < too_long) where
-        pub whole_more : most < value → None ≡ whole_of t most
-        unfolding whole_of
-        whole_more k = rw (some, all, lt-ltb (digit_value 0 t) too_long (omega arith), lt-leb (digit_value 0 t) most (omega arith))
-
-        pub whole_value : value ≤ most → Some value ≡ whole_of t most
-        unfolding whole_of
-        whole_value k =
-            let v : value ≡ digit_value 0 t = omega arith in
-            rw (some, all, lt-ltb (digit_value 0 t) too_long (omega arith), le-leb (digit_value 0 t) most (omega arith), ← v)

@@ -6,6 +6,8 @@
 ghost use Rattle.std.specs.Prelude.{◌≡◌, ◌+◌, ◌-◌, ◌*◌, min, drop};
 ghost use Rattle.program_words.specs.Wholes.{too_long, with_digit, DigitsFrom, whole_of};
 
+use std::ops::Neg;
+
 // From here on the digits are too many.
 const TOO_LONG: u64 = 1_000_000_000_000_000;
 
@@ -48,15 +50,12 @@ fn digits_of(t: &[u8], start: u64) -> Digits<'_>
 }
 
 // A whole number up to `most` and below 10^15.
-#[tactic(auto, using(crate::proofs::Wholes::whole_none, crate::proofs::Wholes::whole_part, crate::proofs::Wholes::whole_long, crate::proofs::Wholes::whole_more, crate::proofs::Wholes::whole_value))]
+#[tactic(auto, unfolding(crate::specs::Wholes::whole_of))]
 pub fn whole_of(t: &[u8], most: u64) -> Option<u64>
     ensures { result ≡ whole_of t.now most }
 {
     let d = digits_of(t, 0);
-    if d.count == 0 || d.count != t.len() || d.value >= TOO_LONG {
-        return None;
-    }
-    if d.value > most {
+    if d.count == 0 || d.count != t.len() || d.value >= TOO_LONG || d.value > most {
         return None;
     }
     Some(d.value)
@@ -78,6 +77,16 @@ impl Sign {
             _ => (Sign::Plus, t),
         }
     }
+
+    // A number with this sign.
+    fn on<N: Neg<Output = N>>(self, n: N) -> N
+        requires { N.Neg.can_neg n }
+    {
+        match self {
+            Sign::Plus => n,
+            Sign::Minus => -n,
+        }
+    }
 }
 
 // The power of ten that an exponent stands for, which is all of the text; none is 0.
@@ -91,10 +100,7 @@ fn exponent_of(t: &[u8]) -> Option<i64> {
         return None;
     }
     let e = i64::try_from(d.value).ok()?;
-    Some(match sign {
-        Sign::Plus => e,
-        Sign::Minus => -e,
-    })
+    Some(sign.on(e))
 }
 
 // m * 10^power.
@@ -120,8 +126,5 @@ pub fn real_of(t: &[u8]) -> Option<f64> {
     }
     let power = exponent_of(all.rest)?.saturating_sub(i64::try_from(places).ok()?);
     let v = scaled(all.value, power)?;
-    Some(match sign {
-        Sign::Plus => v,
-        Sign::Minus => -v,
-    })
+    Some(sign.on(v))
 }
