@@ -7,6 +7,7 @@ ghost use Rattle.cf32.specs.Bytes.{word_at, float_of, pattern_of, read_into, wri
 use std::num::{f32_from_bits_with_nan, f32_to_bits_with_nan};
 
 // The word at place i of the bytes.
+#[tactic(auto, using(crate::proofs::Passes::chunk_is))]
 fn word_at(b: &[u8], i: usize) -> u32
     requires { 4 * i + 4 ≤ length b.now }
     ensures { result ≡ word_at b.now i }
