@@ -1,3 +1,2 @@
--- Tables: the rows, computed. Worded: the texts of no path.
+-- Tables: the rows, computed.
 pub mod Tables
-pub mod Worded

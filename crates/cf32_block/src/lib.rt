@@ -20,7 +20,6 @@ pub enum Path {
 impl TryFrom<&[u8]> for Path {
     type Error = UnknownWord;
 
-    #[tactic(auto, using(crate::proofs::Worded::no_word))]
     fn try_from(word: &[u8]) -> Result<Path, UnknownWord>
         ensures { result ≡ path_with word.now }
     {
