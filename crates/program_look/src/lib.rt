@@ -68,7 +68,7 @@ pub fn look_open(file: &File) -> Seen {
     seen_of(file.metadata())
 }
 
-// What standard input is open on.
+// What standard input is open on. This and the next are two: one with a parameter would need an enum of the two streams, and its match to the same names.
 pub fn look_input(files: &impl Files) -> Seen {
     seen_of(files.metadata("/proc/self/fd/0"))
 }
