@@ -6,7 +6,6 @@ use lib.Bits.{bit_and, bit_or, and_mask, or_shifted_r}
 use lib.Ieee.{Float, nan, inf, fin, binary32, fits, is_nan, to_bits}
 use lib.Ieee.Exact.{HasValue}
 use Rattle.std.specs.Float.{is_sign_negative}
-use mir.Val.{bool_byte as from_bool}
 use Rattle.laws.specs.Fields.{View, view}
 use Rattle.definition.specs.Phase.{phase_step, step_int}
 use Rattle.costas_step.specs.HalfUp.{half_up}
@@ -27,11 +26,6 @@ far n g x h l =
 
 pub whole : (n g x : ℕ) → n ≤ 1 → 118 ≤ x → g * 2 ^ (x - 118) % 2 ^ 32 ≡ half_up n (g * 2 ^ x) (2 ^ 118) % 2 ^ 32
 whole n g x h l = ap (λ (y : ℕ). y % 2 ^ 32) (sym (mag_whole n g x h l))
-
--- the number of a sign
-pub bit_is : (s : Bool) → from_bool s ≡ bit s
-bit_is true = refl
-bit_is false = refl
 
 pub bit_le : (s : Bool) → bit s ≤ 1
 bit_le true = lit≤ tt

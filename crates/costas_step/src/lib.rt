@@ -7,6 +7,7 @@ ghost use Rattle.costas_step.specs.HalfUp.{half_up};
 
 // The low 32 bits of sig * 2^(exp - 118) rounded to a whole number: a half goes up, and down for `minus`, so that it is the magnitude of a negative number
 // rounded with a half up.
+#[tactic(auto, using(crate::proofs::Steps::far, crate::proofs::Steps::whole, crate::proofs::Steps::part))]
 fn magnitude(exp: u32, sig: u32, minus: bool) -> u32
     requires { (94 ≤ exp) × (1 ≤ sig) × (sig < 2 ^ 24) }
     ensures { result ≡ half_up (cond minus 1 0) (sig * 2 ^ exp) (2 ^ 118) % 2 ^ 32 }
