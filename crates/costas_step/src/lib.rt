@@ -12,15 +12,15 @@ fn magnitude(exp: u32, sig: u32, minus: bool) -> u32
     requires { (94 ≤ exp) × (1 ≤ sig) × (sig < 2 ^ 24) }
     ensures { result ≡ half_up (cond minus 1 0) (sig * 2 ^ exp) (2 ^ 118) % 2 ^ 32 }
 {
-    if exp <= 140 {
-        // 39 digits more, so that one shift down serves every exponent: the floor of twice the number, one more, and half of that
-        let s = u64::from(sig) << 39;
-        let q = (s - u64::from(minus)) >> (156 - exp);
-        (((q + 1) >> 1) & 0xffff_ffff) as u32
-    } else if exp < 150 {
-        sig << (exp - 118)
-    } else {
-        0
+    match exp {
+        0..=140 => {
+            // 39 digits more, so that one shift down serves every exponent: the floor of twice the number, one more, and half of that
+            let s = u64::from(sig) << 39;
+            let q = (s - u64::from(minus)) >> (156 - exp);
+            (((q + 1) >> 1) & 0xffff_ffff) as u32
+        }
+        141..=149 => sig << (exp - 118),
+        _ => 0,
     }
 }
 
@@ -36,12 +36,12 @@ pub fn phase_step_f32(v: f32) -> u32
     let exp = (bits >> 23) & 0xff;
     let sig = (bits & 0x7f_ffff) | 0x80_0000;
     let minus = v.is_sign_negative();
-    if exp < 94 {
-        return 0;
+    match exp {
+        0..=93 => 0,
+        94..=157 => {
+            let m = magnitude(exp, sig, minus);
+            if minus { m.wrapping_neg() } else { m }
+        }
+        _ => if minus { 0 } else { u32::MAX },
     }
-    if exp >= 158 {
-        return if minus { 0 } else { u32::MAX };
-    }
-    let m = magnitude(exp, sig, minus);
-    if minus { m.wrapping_neg() } else { m }
 }
