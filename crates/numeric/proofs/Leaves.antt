@@ -1,23 +1,29 @@
--- Laws of `flush` and `clip`, and one for each exit of `is_finite` and `flush_denormal`. Assumes nothing.
+-- Laws of `flush` and `clip`, of the library's test for a finite float and of its magnitude, and one for each exit of `flush_denormal`. Assumes nothing.
 use mathlib.Core.Path.{◌≡◌, refl, sym, ap, ◌∙◌}
 use mathlib.Core.Logic.{◌⊎◌, inl, inr}
 use mathlib.Core.Bool.{Bool, true, false, not, cond, ◌&&◌}
 use lib.Dec.{T}
 use lib.Ieee.{Float, nan, inf, fin, lt, le, neg}
 use lib.Ieee.Scale.{finite}
-use Rattle.std.specs.Float.{float_is_finite}
+use Rattle.std.specs.Float.{float_is_finite, float_with_sign}
 use Rattle.laws.specs.Order.{number, le_of_not_lt, le_itself, neg_number}
 use Rattle.types.specs.Bits.{zero32}
 use Rattle.definition.specs.Floats.{abs, tiny, flush, clip}
 use Rattle.definition_laws.proofs.Parts.{both_tests}
 
--- ---- `is_finite`
+-- ---- the library's test for a finite float, and its magnitude, are the definition's
 
 pub is_finite_lem : (x : Float) → float_is_finite x ≡ finite x
 unfolding float_is_finite
 is_finite_lem nan = refl
 is_finite_lem (inf s) = refl
 is_finite_lem (fin s m e) = refl
+
+pub sign_abs : (v : Float) → float_with_sign false v ≡ abs v
+unfolding float_with_sign
+sign_abs nan = refl
+sign_abs (inf s) = refl
+sign_abs (fin s m e) = refl
 
 -- ---- `flush`
 

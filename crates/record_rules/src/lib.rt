@@ -59,7 +59,7 @@ fn plus_zero(v: f32) -> bool
 }
 
 // +0, or finite and at least 1e-30 in magnitude.
-#[tactic(auto, unfolding(definition::specs::Rules::weight_fits), using(crate::proofs::Bits::sign_abs))]
+#[tactic(auto, unfolding(definition::specs::Rules::weight_fits), using(numeric::proofs::Leaves::sign_abs))]
 fn weight_fits(v: f32) -> bool
     ensures { result ≡ weight_fits v }
 {
@@ -67,7 +67,7 @@ fn weight_fits(v: f32) -> bool
 }
 
 // +0, or 1e-30 to 0.125 in magnitude.
-#[tactic(auto, unfolding(definition::specs::Rules::freq_fits), using(crate::proofs::Bits::sign_abs, crate::proofs::Ranges::in_floats))]
+#[tactic(auto, unfolding(definition::specs::Rules::freq_fits), using(numeric::proofs::Leaves::sign_abs, crate::proofs::Ranges::in_floats))]
 fn freq_fits(v: f32) -> bool
     ensures { result ≡ freq_fits v }
 {
