@@ -50,19 +50,12 @@ pub fn rotate(v: C32, t: CosSin) -> C32
     }
 }
 
-// |v|, but -0 stays. With `f32::abs`, which tests for 0 too, `integrate` took 7.5 ns and not 6.9 where it is held, 1.5 and not 1.3 where it is not.
-fn size(v: f32) -> f32
-    ensures { result ≡ cond (lt v zero32) (neg v) v }
-{
-    if v < 0.0 { -v } else { v }
-}
-
-// Whether u is larger than v, by size.
-#[tactic(auto, using(crate::proofs::Sizes::size_lt))]
+// Whether u is larger than v in magnitude.
+#[tactic(auto, using(numeric::proofs::Leaves::sign_abs))]
 fn larger(u: f32, v: f32) -> bool
     ensures { result ≡ lt (abs v) (abs u) }
 {
-    size(u) > size(v)
+    u.abs() > v.abs()
 }
 
 // The number of the half-open octant, counter-clockwise: the quadrant by the signs, its half by the larger part.
@@ -109,6 +102,13 @@ pub fn octant_point(y: C32) -> C32
     ensures { result ≡ octant_point y }
 {
     POINTS8[octant(y)]
+}
+
+// |v|, but -0 stays. With `f32::abs`, which tests for 0 too, `integrate` took 7.5 ns and not 6.9 where it is held, 1.5 and not 1.3 where it is not.
+fn size(v: f32) -> f32
+    ensures { result ≡ cond (lt v zero32) (neg v) v }
+{
+    if v < 0.0 { -v } else { v }
 }
 
 // The integrator: flushed, and held to -limit .. limit. In a running loop t is neither tiny nor past the limit: one test first. By the last line alone, which
