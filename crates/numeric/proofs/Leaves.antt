@@ -1,7 +1,7 @@
--- Laws of `flush` and `clip`, of the library's test for a finite float and of its magnitude, and one for each exit of `flush_denormal`. Assumes nothing.
-use mathlib.Core.Path.{◌≡◌, refl, sym, ap, ◌∙◌}
+-- Laws of the library's test for a finite float and of its magnitude, of `flush` and of `clip`. Assumes nothing.
+use mathlib.Core.Path.{◌≡◌, refl}
 use mathlib.Core.Logic.{◌⊎◌, inl, inr}
-use mathlib.Core.Bool.{Bool, true, false, not, cond, ◌&&◌}
+use mathlib.Core.Bool.{Bool, true, false, not, cond}
 use lib.Dec.{T}
 use lib.Ieee.{Float, nan, inf, fin, lt, le, neg}
 use lib.Ieee.Scale.{finite}
@@ -9,7 +9,6 @@ use Rattle.std.specs.Float.{float_is_finite, float_with_sign}
 use Rattle.laws.specs.Order.{number, le_of_not_lt, le_itself, neg_number}
 use Rattle.types.specs.Bits.{zero32}
 use Rattle.definition.specs.Floats.{abs, tiny, flush, clip}
-use Rattle.definition_laws.proofs.Parts.{both_tests}
 
 -- ---- the library's test for a finite float, and its magnitude, are the definition's
 
@@ -24,21 +23,6 @@ unfolding float_with_sign
 sign_abs nan = refl
 sign_abs (inf s) = refl
 sign_abs (fin s m e) = refl
-
--- ---- `flush`
-
--- the exits, by the answers of the two tests
-pub flush_yes : (x : Float) → lt x (tiny) ≡ true → lt (neg (tiny)) x ≡ true → zero32 ≡ flush x
-unfolding flush
-flush_yes x p q = sym (ap (λ (b : Bool). cond b zero32 x) (both_tests x ∙ ap (λ (b : Bool). b && lt (neg tiny) x) p ∙ q))
-
-pub flush_no_r : (x : Float) → lt x (tiny) ≡ true → lt (neg (tiny)) x ≡ false → x ≡ flush x
-unfolding flush
-flush_no_r x p q = sym (ap (λ (b : Bool). cond b zero32 x) (both_tests x ∙ ap (λ (b : Bool). b && lt (neg tiny) x) p ∙ q))
-
-pub flush_no_l : (x : Float) → lt x (tiny) ≡ false → x ≡ flush x
-unfolding flush
-flush_no_l x p = sym (ap (λ (b : Bool). cond b zero32 x) (both_tests x ∙ ap (λ (b : Bool). b && lt (neg tiny) x) p))
 
 -- ---- LAW: what `flush` gives of a finite x is +0, or finite and no smaller than `tiny`
 abbrev pub Flushed : Float → Type 0
