@@ -29,6 +29,16 @@ pub fn put(x: &mut [f32], i: usize, v: C32)
     x[j + 1] = v.im;
 }
 
+// a·b
+pub fn times(a: C32, b: C32) -> C32
+    ensures { result ≡ complex (a.re *f b.re -f a.im *f b.im) (a.re *f b.im +f a.im *f b.re) }
+{
+    C32 {
+        re: a.re * b.re - a.im * b.im,
+        im: a.re * b.im + a.im * b.re,
+    }
+}
+
 // a·conj(b)
 pub fn times_conj(a: C32, b: C32) -> C32
     ensures { result ≡ complex (a.re *f b.re +f a.im *f b.im) (a.im *f b.re -f a.re *f b.im) }

@@ -44,10 +44,7 @@ pub fn derotate(x: C32, t: CosSin) -> C32
 pub fn rotate(v: C32, t: CosSin) -> C32
     ensures { result ≡ rotated v t }
 {
-    C32 {
-        re: v.re * t.c - v.im * t.s,
-        im: v.re * t.s + v.im * t.c,
-    }
+    complex::times(v, C32 { re: t.c, im: t.s })
 }
 
 // Whether u is larger than v in magnitude.
