@@ -24,7 +24,7 @@ impl Part for Re {
     ghost product = { product_re };
 
     fn product(x: C32, w: C32) -> f32 {
-        x.re * w.re - x.im * w.im
+        complex::times(x, w).re
     }
 }
 
@@ -35,7 +35,7 @@ impl Part for Im {
     ghost product = { product_im };
 
     fn product(x: C32, w: C32) -> f32 {
-        x.re * w.im + x.im * w.re
+        complex::times(x, w).im
     }
 }
 
