@@ -11,7 +11,8 @@ ghost use Rattle.lanes_adapt.specs.Steps.{any_of, broken_at, clear_in, clear_of,
 use lanes::{Half, Halves, LANES, Weights, Window};
 use types::{C32, Update};
 
-// +0 where |v| is below the lane's limit: TINY, and infinity for padding.
+// +0 where |v| is below the lane's limit: TINY, and infinity for padding. With TINY it is `numeric::flush_denormal`, whose limit is fixed: one function of both
+// would make this crate stand on numeric for one line.
 #[tactic(auto, unfolding(crate::specs::Steps::kept_of))]
 fn kept(v: f32, limit: f32) -> f32
     ensures { result ≡ kept_of v limit }
@@ -97,7 +98,7 @@ fn clear(v: f32, limit: f32) -> f32
     if is_padding(limit) { 0.0 } else { v }
 }
 
-// Padding back to +0.
+// Padding back to +0. The limit by an index: behind a `zip` of `iter_mut` a proof knows no element.
 fn cleared(w: &mut [f32; LANES], limit: &[f32; LANES])
     ensures { Replaced (clear_in w.old limit.now false 0) 0 144 w.old w.new }
 {

@@ -16,7 +16,7 @@ fn product_at<P: Part>(h: &Window, w: &Weights, p: Half, j: usize) -> f32
     P::product(h.at(p.at + j), w.at(p.from + j))
 }
 
-// Adds eight products, from i on, to the eight partial sums.
+// Adds eight products, from i on, to the eight partial sums. By an index: behind a `zip` of `iter_mut` a proof knows no element.
 fn add_block<P: Part>(acc: &mut [f32; 8], h: &Window, w: &Weights, p: Half, i: usize)
     requires { i + 8 ≤ p.lanes }
     ensures { Added (split_at P.product h.now.re h.now.im w.now.re w.now.im p.at p.from) i 8 acc.old acc.new }
@@ -36,7 +36,7 @@ fn add_half<P: Part>(acc: &mut [f32; 8], h: &Window, w: &Weights, p: Half)
     }
 }
 
-// The part of the sum over both halves, one after the other, each of whole blocks of eight.
+// The part of the sum over both halves, one after the other, each of whole blocks of eight. By two halves: a `Halves` would ask more of a caller, `from` 0 and 72.
 #[tactic(auto, using(crate::proofs::Blocks::onto_tree))]
 pub fn dot_split<P: Part>(h: &Window, w: &Weights, p: Half, q: Half) -> f32
     requires blocks { (p.lanes % 8 ≡ 0) × (q.lanes % 8 ≡ 0) }

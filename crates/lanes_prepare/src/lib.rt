@@ -52,7 +52,7 @@ pub fn squares(h: &mut Window, from: usize, to: usize)
     }
 }
 
-// Adds N values to N sums.
+// Adds N values to N sums. By an index: behind a `zip` of `iter_mut` a proof knows no element.
 fn add<const N: usize>(acc: &mut [f32; N], q: &[f32; PLACES], from: usize)
     requires { from + N ≤ 288 }
     ensures { Added (λ i. get_or q.now i nan) from N acc.old acc.new }
@@ -85,7 +85,7 @@ pub fn powers(power: &mut [f32; RUN], q: &[f32; PLACES], from: usize, n: usize)
     }
 }
 
-// The step sizes by mu for the windows from .. to.
+// The step sizes by mu for the windows from .. to. The powers by an index, as in `add`.
 #[tactic(auto, using(lanes::proofs::Between::between_more))]
 fn divide(steps: &mut [f32; RUN], power: &[f32; RUN], from: usize, to: usize, mu: f32)
     requires { (from ≤ to) × (to ≤ 64) }
