@@ -13,7 +13,7 @@ use Rattle.definition.specs.Floats.{narrow}
 use Rattle.numeric.proofs.Narrowing.{narrows, normal_le, low_le, sig_lt}
 use Rattle.numeric.proofs.Digits.{of_nan, no_nan_in, shift_is, sum-le, sum_fits}
 use Rattle.numeric.proofs.narrow.Goals as goal
-use Rattle.numeric.proofs.narrow.Goals.{in-0-to-871, in-872-to-896, in-897-to-1150, in_default}
+use Rattle.numeric.proofs.narrow.Goals.{Joined-e-lt872, in-0-to-871, in-872-to-896, in-897-to-1150, in_default}
 
 abbrev sign : Float → ℕ
 sign x = cond (leb (2 ^ 63) (to_bits binary64 x)) (2 ^ 31) 0
@@ -67,25 +67,20 @@ overflow_add-p c =
     let N : T (not (is_nan c.args.x)) = no_nan_in _ _ c.is_nan.ensures.value c.if-is_nan.false in
     record { fits = fits_in c.args.x F N (omega arith) _ c.nearest.ensures }
 
-pub with_sign-requires : goal.with_sign-requires
-with_sign-requires c =
+-- each way to the magnitude gives a good one
+good : (c : Joined-e-lt872) → Good c.args.x c.if-e-lt872.p
+good c =
     let F : T (fits binary64 c.args.x) = subst T (sym c.well_formed.0.1) tt in
     let N : T (not (is_nan c.args.x)) = no_nan_in _ _ c.is_nan.ensures.value c.if-is_nan.false in
     elim c.if-e-lt872.branch [
-      | in-0-to-871 w ↦ (nought c.args.x F N (omega arith) _ w.p-is).0
-      | in-872-to-896 w ↦ (subnormal c.args.x F N (omega arith) (omega arith) _ _ w.nearest-p.ensures w.p-is).0
-      | in-897-to-1150 w ↦ (normal c.args.x F N (omega arith) (omega arith) _ _ w.nearest.ensures w.p-is).0
-      | in_default w ↦ (infinite c.args.x F N (omega arith) _ w.p-is).0
+      | in-0-to-871 w ↦ nought c.args.x F N (omega arith) _ w.p-is
+      | in-872-to-896 w ↦ subnormal c.args.x F N (omega arith) (omega arith) _ _ w.nearest-p.ensures w.p-is
+      | in-897-to-1150 w ↦ normal c.args.x F N (omega arith) (omega arith) _ _ w.nearest.ensures w.p-is
+      | in_default w ↦ infinite c.args.x F N (omega arith) _ w.p-is
     ]
 
+pub with_sign-requires : goal.with_sign-requires
+with_sign-requires c = (good (goal.at.with_sign-requires c).Joined-e-lt872).0
+
 pub returns : goal.returns
-returns c =
-    let F : T (fits binary64 c.args.x) = subst T (sym c.well_formed.0.1) tt in
-    let N : T (not (is_nan c.args.x)) = no_nan_in _ _ c.is_nan.ensures.value c.if-is_nan.false in
-    c.with_sign.ensures
-    ∙ elim c.if-e-lt872.branch [
-      | in-0-to-871 w ↦ (nought c.args.x F N (omega arith) _ w.p-is).1
-      | in-872-to-896 w ↦ (subnormal c.args.x F N (omega arith) (omega arith) _ _ w.nearest-p.ensures w.p-is).1
-      | in-897-to-1150 w ↦ (normal c.args.x F N (omega arith) (omega arith) _ _ w.nearest.ensures w.p-is).1
-      | in_default w ↦ (infinite c.args.x F N (omega arith) _ w.p-is).1
-    ]
+returns c = c.with_sign.ensures ∙ (good (goal.at.returns c).Joined-e-lt872).1
