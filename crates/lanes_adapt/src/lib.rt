@@ -34,10 +34,10 @@ fn stepped(w: C32, limit: f32, x: C32, g: C32) -> C32
     ensures re { result.re ≡ lane_re w.re limit x.re x.im g.re g.im }
     ensures im { result.im ≡ lane_im w.im limit x.re x.im g.re g.im }
 {
-    let d = complex::times_conj(g, x);
+    let v = w - complex::times_conj(g, x);
     C32 {
-        re: kept(w.re - d.re, limit),
-        im: kept(w.im - d.im, limit),
+        re: kept(v.re, limit),
+        im: kept(v.im, limit),
     }
 }
 

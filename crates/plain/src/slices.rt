@@ -36,10 +36,10 @@ pub(crate) fn window_power(x: &[f32], from: usize, first: f32, n: usize) -> f32
 fn update_weight(w: C32, g: C32, x: C32) -> C32
     ensures { (result.re ≡ flush (w.re -f (g.re *f x.re +f g.im *f x.im))) × (result.im ≡ flush (w.im -f (g.im *f x.re -f g.re *f x.im))) }
 {
-    let d = complex::times_conj(g, x);
+    let v = w - complex::times_conj(g, x);
     C32 {
-        re: numeric::flush_denormal(w.re - d.re),
-        im: numeric::flush_denormal(w.im - d.im),
+        re: numeric::flush_denormal(v.re),
+        im: numeric::flush_denormal(v.im),
     }
 }
 

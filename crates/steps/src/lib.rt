@@ -232,10 +232,7 @@ pub fn step(s: EqualizeState, t: CosSin, y: C32, forward: f32, m: f32) -> Steppe
 {
     let z = costas::derotate(y, t);
     let d = constellation::decide(s.params.constellation, z);
-    let e = C32 {
-        re: z.re - d.re,
-        im: z.im - d.im,
-    };
+    let e = z - d;
     let a = aim_of(s, t, y, d, e);
     let live = forward != 0.0;
     let update = update_of(live, a.e, m);

@@ -6,10 +6,13 @@ mod numbers;
 mod words;
 
 ghost use Rattle.std.specs.Prelude.{◌≡◌, ◌-◌, ◌/◌, length};
+ghost use Rattle.std.specs.Float.{binary32};
+ghost use Rattle.std.specs.Float.Ieee.{sub};
 ghost use Rattle.types.specs.Bits.{f32 as f32Of, f64 as f64Of};
 ghost use Rattle.types.specs.Start.{start_mode, start_state};
 
 pub use numbers::{Lengths, UnknownNumber};
+use std::ops::Sub;
 pub use words::UnknownWord;
 
 // A complex sample: two f32, real part first.
@@ -18,6 +21,20 @@ pub use words::UnknownWord;
 pub struct C32 {
     pub re: f32,
     pub im: f32,
+}
+
+// By parts.
+impl Sub for C32 {
+    type Output = C32;
+
+    ghost sub_gives = { λ a b c. c ≡ record { re = sub binary32 a.re b.re; im = sub binary32 a.im b.im } };
+
+    fn sub(self, b: C32) -> C32 {
+        C32 {
+            re: self.re - b.re,
+            im: self.im - b.im,
+        }
+    }
 }
 
 // Cosine and sine of a phase.
