@@ -87,26 +87,17 @@ impl Shape {
     }
 }
 
-// The weights: half of the lanes for the forward taps, then half for the feedback taps. Here and in the window parts stand apart, as the specification has them: real and
-// imaginary lanes apart. Two structs and no one of both by its length: the window has its squares besides, and a sum takes one of each.
+// N complex numbers, parts apart as the specification has them: real and imaginary lanes apart.
 #[derive(Clone, Copy)]
-pub struct Weights {
-    pub re: [f32; LANES],
-    pub im: [f32; LANES],
+pub struct Split<const N: usize> {
+    pub re: [f32; N],
+    pub im: [f32; N],
 }
 
-impl Weights {
-    pub const ZERO: Weights = Weights {
-        re: [0.0; LANES],
-        im: [0.0; LANES],
-    };
-
-    // The first lane of the feedback taps.
-    pub const BACK: usize = LANES / 2;
-
-    // The weight in lane k.
+impl<const N: usize> Split<N> {
+    // The number at k.
     pub fn at(&self, k: usize) -> C32
-        requires { k < 144 }
+        requires { k < N }
         ensures { result ≡ complex (get_or self.now.re k nan) (get_or self.now.im k nan) }
     {
         C32 {
@@ -115,56 +106,48 @@ impl Weights {
         }
     }
 
-    // The weight in lane k set to v.
+    // The number at k set to v.
     pub fn put(&mut self, k: usize, v: C32)
-        requires { k < 144 }
+        requires { k < N }
         ensures re { self.new.re ≡ set self.old.re k v.re }
         ensures im { self.new.im ≡ set self.old.im k v.im }
-        ensures long { (length self.old.re ≡ 144) × (length self.old.im ≡ 144) }
+        ensures long { (length self.old.re ≡ N) × (length self.old.im ≡ N) }
     {
         self.re[k] = v.re;
         self.im[k] = v.im;
     }
 }
 
+// The weights: half of the lanes for the forward taps, then half for the feedback taps.
+pub type Weights = Split<LANES>;
+
+impl Weights {
+    // Here and in `Window`, and no `Split<N>::ZERO`: the value of a constant cannot name a constant of a generic block yet.
+    pub const ZERO: Weights = Split {
+        re: [0.0; LANES],
+        im: [0.0; LANES],
+    };
+
+    // The first lane of the feedback taps.
+    pub const BACK: usize = LANES / 2;
+}
+
 // The window, with its re² + im²: the forward window in the lower half of the places, the feedback window in the upper half.
 #[derive(Clone, Copy)]
 pub struct Window {
-    pub re: [f32; PLACES],
-    pub im: [f32; PLACES],
+    pub values: Split<PLACES>,
     pub squares: [f32; PLACES],
 }
 
 impl Window {
     pub const ZERO: Window = Window {
-        re: [0.0; PLACES],
-        im: [0.0; PLACES],
+        values: Split {
+            re: [0.0; PLACES],
+            im: [0.0; PLACES],
+        },
         squares: [0.0; PLACES],
     };
 
     // A feedback window stands so many places above its forward window; with a sample put in before that one, one more.
     pub const BACK: usize = 152;
-
-    // The value at j.
-    pub fn at(&self, j: usize) -> C32
-        requires { j < 288 }
-        ensures { result ≡ complex (get_or self.now.re j nan) (get_or self.now.im j nan) }
-    {
-        C32 {
-            re: self.re[j],
-            im: self.im[j],
-        }
-    }
-
-    // The value at j set to v; its square is as it was.
-    pub fn put(&mut self, j: usize, v: C32)
-        requires { j < 288 }
-        ensures re { self.new.re ≡ set self.old.re j v.re }
-        ensures im { self.new.im ≡ set self.old.im j v.im }
-        ensures long { (length self.old.re ≡ 288) × (length self.old.im ≡ 288) }
-        ensures squares { self.new.squares ≡ self.old.squares }
-    {
-        self.re[j] = v.re;
-        self.im[j] = v.im;
-    }
 }

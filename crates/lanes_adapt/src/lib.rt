@@ -44,14 +44,14 @@ fn stepped(w: C32, limit: f32, x: C32, g: C32) -> C32
 // A step of one half's lanes; whether some lane is not finite. By an index: it is a place in two structs and an array. No `any` for the flag: it leaves early.
 #[tactic(auto, using(crate::proofs::HalfLoop::half_none))]
 fn update_half(w: &mut Weights, limit: &[f32; LANES], h: &Window, p: Half, g: C32) -> bool
-    ensures re { Replaced (step_re w.old.re limit.now h.now.re h.now.im p.at p.from g.re g.im) p.from p.lanes w.old.re w.new.re }
-    ensures im { Replaced (step_im w.old.im limit.now h.now.re h.now.im p.at p.from g.re g.im) p.from p.lanes w.old.im w.new.im }
-    ensures value { result ≡ any_of p.lanes (λ i. uneven (step_re w.old.re limit.now h.now.re h.now.im p.at p.from g.re g.im i) (step_im w.old.im limit.now h.now.re h.now.im p.at p.from g.re g.im i)) }
+    ensures re { Replaced (step_re w.old.re limit.now h.now.values.re h.now.values.im p.at p.from g.re g.im) p.from p.lanes w.old.re w.new.re }
+    ensures im { Replaced (step_im w.old.im limit.now h.now.values.re h.now.values.im p.at p.from g.re g.im) p.from p.lanes w.old.im w.new.im }
+    ensures value { result ≡ any_of p.lanes (λ i. uneven (step_re w.old.re limit.now h.now.values.re h.now.values.im p.at p.from g.re g.im i) (step_im w.old.im limit.now h.now.values.re h.now.values.im p.at p.from g.re g.im i)) }
 {
     let mut bad = false;
     for i in 0..p.lanes {
         let k = p.from + i;
-        let v = stepped(w.at(k), limit[k], h.at(p.at + i), g);
+        let v = stepped(w.at(k), limit[k], h.values.at(p.at + i), g);
         w.put(k, v);
         bad |= apart(v);
     }
@@ -133,7 +133,7 @@ pub fn update_split(
     centre: usize,
 )
     requires { centre < 72 }
-    ensures { Adapts u w.old.re w.old.im limit.now h.now.re h.now.im p.forth.at p.forth.lanes p.fed.at p.fed.lanes centre w.new.re w.new.im }
+    ensures { Adapts u w.old.re w.old.im limit.now h.now.values.re h.now.values.im p.forth.at p.forth.lanes p.fed.at p.fed.lanes centre w.new.re w.new.im }
 {
     let Update::Step(re, im) = u else {
         return;

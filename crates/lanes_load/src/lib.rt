@@ -5,34 +5,28 @@ ghost use Rattle.std.specs.Prelude.{◌≡◌, ◌+◌, ◌*◌, ◌≤◌, leng
 ghost use Rattle.lanes_load.specs.Load.{Joined, Loaded, Moved};
 ghost use Rattle.lanes.specs.Holds.{Limits};
 
-use lanes::{LANES, PLACES, Weights};
-use types::C32;
+use lanes::{LANES, PLACES, Split, Weights};
 
-// count complex values of x, from `from` on, into the lanes from `at` on. By an index: behind a `zip` of `iter_mut` a proof knows no element.
-pub fn split(re: &mut [f32], im: &mut [f32], at: usize, x: &[f32], from: usize, count: usize)
-    requires count_in_bounds { (at + count ≤ length re.old) × (at + count ≤ length im.old) }
+// count complex values of x, from `from` on, into the lanes from `at` on. By an index: one number is a place in x and in both parts of s, and behind a `zip` of `iter_mut` a proof
+// knows no element.
+pub fn split<const N: usize>(s: &mut Split<N>, at: usize, x: &[f32], from: usize, count: usize)
+    requires count_in_bounds { at + count ≤ N }
     requires count_in_bounds_2 { 2 * (from + count) ≤ length x.now }
-    ensures { Loaded x.now at from count re.old im.old re.new im.new }
+    ensures { Loaded x.now at from count s.old.re s.old.im s.new.re s.new.im }
 {
     for i in 0..count {
-        let v = complex::at(x, from + i);
-        re[at + i] = v.re;
-        im[at + i] = v.im;
+        s.put(at + i, complex::at(x, from + i));
     }
 }
 
-// And back. By an index: one number is a place in three slices, of which x is written, and a `zip` of re and im would still count the places of x.
-pub fn joined(x: &mut [f32], re: &[f32], im: &[f32], at: usize, from: usize, count: usize)
-    requires count_in_bounds { (at + count ≤ length re.now) × (at + count ≤ length im.now) }
+// And back. By an index: one number is a place in both parts of s and in x, which is written, and a `zip` of re and im would still count the places of x.
+pub fn joined<const N: usize>(x: &mut [f32], s: &Split<N>, at: usize, from: usize, count: usize)
+    requires count_in_bounds { at + count ≤ N }
     requires count_in_bounds_2 { 2 * (from + count) ≤ length x.old }
-    ensures { Joined re.now im.now at from count x.old x.new }
+    ensures { Joined s.now.re s.now.im at from count x.old x.new }
 {
     for i in 0..count {
-        let v = C32 {
-            re: re[at + i],
-            im: im[at + i],
-        };
-        complex::put(x, from + i, v);
+        complex::put(x, from + i, s.at(at + i));
     }
 }
 

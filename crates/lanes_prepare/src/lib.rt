@@ -28,27 +28,27 @@ impl Ahead {
     };
 }
 
-// The samples of a run into the window, newest first; a sample that is not finite as zero. By an index: it is a place in two arrays of one struct, from the end
+// The samples of a run into the window, newest first; a sample that is not finite as zero. By an index: it is a place in both parts of the values, from the end
 // down, and a complex number of the input, so that a chain would have three iterators and a `rev` for one `put` and one `at`.
 pub fn enter(h: &mut Window, input: &[f32])
     requires { length input.now ≤ 128 }
-    ensures entered { Entered input.now h.old.re h.old.im h.new.re h.new.im }
+    ensures entered { Entered input.now h.old.values.re h.old.values.im h.new.values.re h.new.values.im }
     ensures squares { h.new.squares ≡ h.old.squares }
 {
     for k in 0..input.len() / 2 {
-        h.put(RUN - 1 - k, numeric::sanitize(complex::at(input, k)));
+        let x = numeric::sanitize(complex::at(input, k));
+        h.values.put(RUN - 1 - k, x);
     }
 }
 
-// re² + im² of the window's values. By an index: it is a place in the three arrays of one struct.
+// re² + im² of the window's values. By an index: it is a place in both parts of the values and in the squares.
 pub fn squares(h: &mut Window, from: usize, to: usize)
     requires { (from ≤ to) × (to ≤ 288) }
-    ensures squared { Between (square_at h.old.re h.old.im) from to h.old.squares h.new.squares }
-    ensures re { h.new.re ≡ h.old.re }
-    ensures im { h.new.im ≡ h.old.im }
+    ensures squared { Between (square_at h.old.values.re h.old.values.im) from to h.old.squares h.new.squares }
+    ensures values { h.new.values ≡ h.old.values }
 {
     for j in from..to {
-        h.squares[j] = complex::norm(h.at(j));
+        h.squares[j] = complex::norm(h.values.at(j));
     }
 }
 

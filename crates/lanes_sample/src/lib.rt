@@ -48,10 +48,10 @@ pub fn measure(g: Shape, at: usize, w: &Weights, h: &Window, forward: f32) -> Me
 // The fed-back sample into the feedback window.
 pub fn feed(h: &mut Window, j: usize, v: C32)
     requires { j < 288 }
-    ensures re { h.new.re ≡ set h.old.re j v.re }
-    ensures im { h.new.im ≡ set h.old.im j v.im }
+    ensures re { h.new.values.re ≡ set h.old.values.re j v.re }
+    ensures im { h.new.values.im ≡ set h.old.values.im j v.im }
     ensures squares { h.new.squares ≡ set h.old.squares j (norm v) }
 {
-    h.put(j, v);
+    h.values.put(j, v);
     h.squares[j] = complex::norm(v);
 }

@@ -67,11 +67,11 @@ fn load_linear(call: &Call, weights: &[f32], window: &[f32], w: &mut Weights, h:
 {
     let n = call.n;
     let Shape { front, m, .. } = call.shape;
-    lanes_load::split(&mut w.re, &mut w.im, 0, weights, 0, n);
-    lanes_load::split(&mut w.re, &mut w.im, Weights::BACK + front, weights, n, m);
-    lanes_load::split(&mut h.re, &mut h.im, RUN, window, 0, n);
+    lanes_load::split(w, 0, weights, 0, n);
+    lanes_load::split(w, Weights::BACK + front, weights, n, m);
+    lanes_load::split(&mut h.values, RUN, window, 0, n);
     let back = RUN + Window::BACK;
-    lanes_load::split(&mut h.re, &mut h.im, back, window, n, m);
+    lanes_load::split(&mut h.values, back, window, n, m);
     lanes_prepare::squares(h, back, back + m);
 }
 
@@ -80,14 +80,14 @@ fn load_linear(call: &Call, weights: &[f32], window: &[f32], w: &mut Weights, h:
 fn store_linear(call: &Call, weights: &mut [f32], window: &mut [f32], w: &Weights, h: &Window)
     requires weights_len { let m = call.now.shape.m in (length weights.old ≡ 2 * (call.now.n + m)) × (length window.old ≡ 2 * (call.now.n + m)) }
     requires front { call.now.shape.front ≡ call.now.n % 8 }
-    ensures { Stores call.now.n call.now.shape.m w.now.re w.now.im h.now.re h.now.im weights.old window.old weights.new window.new }
+    ensures { Stores call.now.n call.now.shape.m w.now.re w.now.im h.now.values.re h.now.values.im weights.old window.old weights.new window.new }
 {
     let n = call.n;
     let Shape { front, m, .. } = call.shape;
-    lanes_load::joined(weights, &w.re, &w.im, 0, 0, n);
-    lanes_load::joined(weights, &w.re, &w.im, Weights::BACK + front, n, m);
-    lanes_load::joined(window, &h.re, &h.im, RUN, 0, n);
-    lanes_load::joined(window, &h.re, &h.im, RUN + Window::BACK, n, m);
+    lanes_load::joined(weights, w, 0, 0, n);
+    lanes_load::joined(weights, w, Weights::BACK + front, n, m);
+    lanes_load::joined(window, &h.values, RUN, 0, n);
+    lanes_load::joined(window, &h.values, RUN + Window::BACK, n, m);
 }
 
 // A block by n forward and m feedback taps: arrays, all runs, and back.

@@ -15,7 +15,7 @@ use types::EqualizeState;
 // The samples of a run into the window, and what depends on them alone.
 fn prepare_run(s: EqualizeState, call: &Call, h: &mut Window, ahead: &mut Ahead, input: &[f32])
     requires { length input.now ≤ 128 }
-    ensures { Prepared s call.now.n input.now h.old.re h.old.im h.old.squares h.new.re h.new.im h.new.squares ahead.new.power ahead.new.steps }
+    ensures { Prepared s call.now.n input.now h.old.values.re h.old.values.im h.old.squares h.new.values.re h.new.values.im h.new.squares ahead.new.power ahead.new.steps }
 {
     let first = RUN - input.len() / 2;
     let from = first / 16 * 16;
@@ -28,16 +28,16 @@ fn prepare_run(s: EqualizeState, call: &Call, h: &mut Window, ahead: &mut Ahead,
 // The windows of the last sample to where the next run looks for them.
 fn finish_run(call: &Call, h: &mut Window, len: usize)
     requires { len ≤ 64 }
-    ensures { Finished call.now.n call.now.shape.m (64 - len) h.old.re h.old.im h.old.squares h.new.re h.new.im h.new.squares }
+    ensures { Finished call.now.n call.now.shape.m (64 - len) h.old.values.re h.old.values.im h.old.squares h.new.values.re h.new.values.im h.new.squares }
 {
     let first = RUN - len;
-    lanes_load::moved(&mut h.re, first, RUN, call.n);
-    lanes_load::moved(&mut h.im, first, RUN, call.n);
+    lanes_load::moved(&mut h.values.re, first, RUN, call.n);
+    lanes_load::moved(&mut h.values.im, first, RUN, call.n);
     let m = call.shape.m;
     let back = first + Window::BACK;
     let home = RUN + Window::BACK;
-    lanes_load::moved(&mut h.re, back, home, m);
-    lanes_load::moved(&mut h.im, back, home, m);
+    lanes_load::moved(&mut h.values.re, back, home, m);
+    lanes_load::moved(&mut h.values.im, back, home, m);
     lanes_load::moved(&mut h.squares, back, home, m);
 }
 

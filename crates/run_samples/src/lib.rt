@@ -50,7 +50,7 @@ struct Entry {
 fn hear(s: EqualizeState, call: &Call, e: Entry, f: Measured, w: &mut Weights, h: &Window) -> Stage
     ensures value { result ≡ heard_of (step_of s f.y e.forward (size_of s call.now.shape.m e.ahead f.power)) }
     ensures adapts { let g = call.now.shape in
-        Adapts (step_of s f.y e.forward (size_of s g.m e.ahead f.power)).update w.old.re w.old.im call.now.limit h.now.re h.now.im e.at g.quads
+        Adapts (step_of s f.y e.forward (size_of s g.m e.ahead f.power)).update w.old.re w.old.im call.now.limit h.now.values.re h.now.values.im e.at g.quads
         (e.at + 153 - g.front) g.mquads g.centre w.new.re w.new.im }
 {
     let g = call.shape;

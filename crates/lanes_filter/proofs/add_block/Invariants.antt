@@ -4,4 +4,4 @@ use Rattle.dot.specs.Added.{Added}
 use Rattle.lanes_filter.proofs.add_block.Given as goal
 
 abbrev pub invariant-loop-k : goal.invariant-loop-k
-invariant-loop-k g l = Added (split_at g.P.Part.product l.h.re l.h.im l.w.re l.w.im l.p.at l.p.from) l.i l.k l.initial.acc l.acc
+invariant-loop-k g l = Added (split_at g.P.Part.product l.h.values.re l.h.values.im l.w.re l.w.im l.p.at l.p.from) l.i l.k l.initial.acc l.acc

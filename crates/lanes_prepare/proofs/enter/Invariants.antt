@@ -5,6 +5,6 @@ use Rattle.lanes_prepare.proofs.enter.Given as goal
 
 abbrev pub invariant-loop-k : goal.invariant-loop-k
 invariant-loop-k l = record {
-  entry : Entry l.input l.initial.h.re l.initial.h.im l.k l.h.re l.h.im;
+  entry : Entry l.input l.initial.h.values.re l.initial.h.values.im l.k l.h.values.re l.h.values.im;
   squares : l.h.squares ≡ l.initial.h.squares;
 }

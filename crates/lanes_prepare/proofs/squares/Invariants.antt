@@ -6,7 +6,6 @@ use Rattle.lanes_prepare.proofs.squares.Given as goal
 
 abbrev pub invariant-loop-j : goal.invariant-loop-j
 invariant-loop-j l = record {
-  squared : Between (square_at l.initial.h.re l.initial.h.im) l.from l.j l.initial.h.squares l.h.squares;
-  re : l.h.re ≡ l.initial.h.re;
-  im : l.h.im ≡ l.initial.h.im;
+  squared : Between (square_at l.initial.h.values.re l.initial.h.values.im) l.from l.j l.initial.h.squares l.h.squares;
+  values : l.h.values ≡ l.initial.h.values;
 }

@@ -4,6 +4,6 @@ use Rattle.run_block.proofs.load_linear.Goals as goal
 
 pub returns : goal.returns
 returns c =
-    rw (c.squares.ensures.re, c.squares.ensures.im)
+    rw c.squares.ensures.values
     (loads _ _ _ c.requires.front _ _ _ c.requires.empty _ _ _ _ _ _ _ _ _ c.split.ensures c.split-2.ensures
     c.split-3.ensures c.split-4.ensures c.squares.ensures.squared)

@@ -6,4 +6,4 @@ use Rattle.run_one.proofs.prepare_run.Goals as goal
 pub returns : goal.returns
 returns c =
     let made = prepared _ _ _ _ _ _ _ _ _ _ _ _ _ (omega arith) c.enter.ensures.entered (rw c.enter.ensures.squares at c.squares.ensures.squared) c.powers.ensures c.sizes.ensures.sizes in
-    rw (c.squares.ensures.re, c.squares.ensures.im, c.sizes.ensures.power) made
+    rw (c.squares.ensures.values, c.sizes.ensures.power) made
