@@ -6,19 +6,10 @@ ghost use Rattle.std.specs.Float.Ieee.{lt};
 ghost use Rattle.types.specs.Bits.{one32};
 ghost use Rattle.lanes.specs.Adapts.{Adapts};
 ghost use Rattle.lanes_adapt.specs.Settled.{Settled, ruined};
-ghost use Rattle.lanes_adapt.specs.Steps.{any_of, broken_at, clear_in, clear_of, kept_of, lane_im, lane_re, Replaced, step_im, step_re, uneven};
+ghost use Rattle.lanes_adapt.specs.Steps.{any_of, broken_at, clear_in, clear_of, lane_im, lane_re, Replaced, step_im, step_re, uneven};
 
 use lanes::{Half, Halves, LANES, Weights, Window};
 use types::{C32, Update};
-
-// +0 where |v| is below the lane's limit: TINY, and infinity for padding. With TINY it is `numeric::flush_denormal`, whose limit is fixed: one function of both
-// would make this crate stand on numeric for one line.
-#[tactic(auto, unfolding(crate::specs::Steps::kept_of))]
-fn kept(v: f32, limit: f32) -> f32
-    ensures { result ≡ kept_of v limit }
-{
-    if (v < limit) & (v > -limit) { 0.0 } else { v }
-}
 
 // Whether a part of v is not finite. By two differences: by `numeric::finite_c` the quick path took 7 % more with 63 taps, the joint path 8 % with 31 + 15.
 #[tactic(auto, unfolding(crate::specs::Steps::uneven))]
@@ -28,16 +19,16 @@ fn apart(v: C32) -> bool
     (v.re - v.re) != (v.im - v.im)
 }
 
-// The weight w after a step by g·conj(x).
-#[tactic(auto, unfolding(crate::specs::Steps::lane_re, crate::specs::Steps::lane_im))]
+// The weight w after a step by g·conj(x), +0 in a part below the lane's limit: TINY, and infinity for padding.
+#[tactic(auto, unfolding(crate::specs::Steps::lane_re, crate::specs::Steps::lane_im, crate::specs::Steps::kept_of))]
 fn stepped(w: C32, limit: f32, x: C32, g: C32) -> C32
     ensures re { result.re ≡ lane_re w.re limit x.re x.im g.re g.im }
     ensures im { result.im ≡ lane_im w.im limit x.re x.im g.re g.im }
 {
     let v = w - complex::times_conj(g, x);
     C32 {
-        re: kept(v.re, limit),
-        im: kept(v.im, limit),
+        re: numeric::flush_below(v.re, limit),
+        im: numeric::flush_below(v.im, limit),
     }
 }
 
