@@ -64,8 +64,7 @@ fn product_at<P: Part>(t: Taps, i: usize) -> f32
 }
 
 // Adds the products i .. i + 7 to the partial sums. No function over a closure for this loop and the like in lanes_filter and lanes_prepare: of two lines
-// each, and by `F.pre` and `F.post` its contract would be longer than the three; nor a trait
-// with a ghost term, of which each of the three would be a struct with an `impl`.
+// each, and by `F.pre` and `F.post` its contract would be longer than the three; nor a trait with a ghost term, of which each would be a struct with an `impl`.
 fn block<P: Part>(a: &mut [f32; 8], t: Taps, i: usize)
     requires { i + 8 ≤ t.n }
     ensures { Added (product_at P.product t.entry.x.now t.entry.w.now) i 8 a.old a.new }
