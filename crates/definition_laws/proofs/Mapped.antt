@@ -1,21 +1,20 @@
 -- Loops over slices of floats. Assumes nothing.
 --     Mapped f old n l            a loop that goes up has replaced the first n elements of old
 --     mapped-none, mapped-more    before the first store; a store at n
---     mapped-read, mapped-long    what stands from n on is old's; the length is old's
+--     mapped-read                 what stands from n on is old's
 --     part-even, part-odd         the parts of complex number i
---     shift-list, clear-all, start_is, power-more     shift, zeros, start weights, window power
+--     shift-list, clear-all, start_is   shift, zeros, start weights
 use Prim.Native.Nat.{ℕ, zero, suc, ◌+◌, ◌-◌, ◌*◌, ◌/◌, ◌%◌, ◌<◌, ◌≤◌}
 use mathlib.Core.Path.{◌≡◌, refl, sym, ◌∙◌, ap}
 use mathlib.Core.List.{List, [], ◌∷◌, ◌++◌, append-nil}
 use native.Mathlib.Omega.{arith}
 use native.Mathlib.Numerals.{add-one}
-use lib.ListN.{length, get_or, set, take, drop, length-append, length-drop, drop_of_length-le}
+use lib.ListN.{length, get_or, set, take, drop, drop_of_length-le}
 use lib.Seq.{take-suc, drop-cons, set_at, append_snoc, get_or-append-add, get_or-drop}
 use lib.Ieee.{Float, nan}
 use Rattle.types.specs.declared.C32.{C32}
 use Rattle.types.specs.Bits.{zero32, one32}
-use Rattle.definition.specs.Floats.{◌+f◌, norm}
-use Rattle.definition.specs.Slices.{re_at, im_at, shifted, zeros, power, part, tabulate, start_weights}
+use Rattle.definition.specs.Slices.{shifted, zeros, part, tabulate, start_weights}
 use Rattle.definition_laws.proofs.Every.{length_tabulate}
 
 -- ---- the first n elements replaced: l is f 0 .. f (n − 1), then the rest of old
@@ -40,9 +39,6 @@ module _ {f : ℕ → Float} {old : List Float} where
       let i : length (tabulate n f) + (q - n) ≡ q = omega (arith, length_tabulate n f) in
       let j : n + (q - n) ≡ q = omega arith in
       rw m.is (rw i at (get_or-append-add (tabulate n f) (drop n old) (q - n) d) ∙ get_or-drop n old (q - n) d ∙ rw j)
-
-  pub mapped-long : (n : ℕ) {l : List Float} → n ≤ length old → Mapped f old n l → length l ≡ length old
-  mapped-long n h m = rw m.is (simp (length-append, length_tabulate, length-drop) (omega arith))
 
 -- ---- the parts of complex numbers
 pub part_even : (re im : ℕ → Float) (i : ℕ) → part re im (2 * i) ≡ re i
@@ -91,8 +87,3 @@ clear_all old l i h g m =
 pub start_is : (n c : ℕ) (w z : List Float) → length w ≡ 2 * n → z ≡ zeros (length w) → set z (2 * c) one32 ≡ start_weights n c
 unfolding start_weights
 start_is n c w z h e = rw (e, h)
-
--- ---- the power
-pub power_more : (x : List Float) (n : ℕ) (s v : Float) (a : C32) → s ≡ power x n → a.re ≡ re_at x n → a.im ≡ im_at x n → v ≡ norm a → s +f v ≡ power x (n + 1)
-unfolding power
-power_more x n s v a p q r e = rw (add-one, p, e, q, r)

@@ -1,8 +1,7 @@
--- Padding: products that are zeros, of either sign, may be left out of the end of a sum, and weights +0 make such products of a finite window. Assumes nothing.
+-- Padding: products that are zeros, of either sign, may be left out of the end of a partial sum; +0 and a finite value make such a product. Assumes nothing.
 use Prim.Native.Nat.{ℕ, zero, suc, ◌+◌, ◌-◌, ◌*◌, ◌<◌, ◌≤◌}
 use mathlib.Core.Path.{◌≡◌, refl, sym, ◌∙◌, ap}
 use mathlib.Core.Bool.{Bool, true, false}
-use mathlib.Core.List.{List}
 use native.Mathlib.Omega.{arith}
 use native.Mathlib.Nat.{add-zero, add-suc}
 use lib.IntN.{pos}
@@ -14,7 +13,7 @@ use lib.Ieee.Scale.{finite}
 use Rattle.laws.specs.Zero.{not_neg_zero, add_any_zero, add_not_neg, mul_zero_right}
 use Rattle.types.specs.Bits.{zero32}
 use Rattle.definition.specs.Floats.{◌+f◌, ◌-f◌, ◌*f◌}
-use Rattle.definition.specs.Slices.{re_at, im_at, prod_re, prod_im, lane, lane_count, sum8}
+use Rattle.definition.specs.Slices.{lane, lane_count}
 
 -- a zero of either sign
 pub record Zero (x : Float) : Type 0 where
@@ -50,12 +49,6 @@ module _ (p : ℕ → Float) (each : (i : ℕ) → T (fits binary32 (p i))) wher
       let e : b + c ≡ lane_count m k = omega arith in
       ap (lane p k) (sym e) ∙ lane-pad k b c (λ i x y. z (8 * i + k) (omega arith) (omega arith))
 
-  pub sum-pad : (n m : ℕ) → n ≤ m → ((i : ℕ) → n ≤ i → i < m → Zero (p i)) → sum8 p m ≡ sum8 p n
-  unfolding sum8
-  sum-pad n m h z =
-      let s : (k : ℕ) → k < 8 → lane p k (lane_count m k) ≡ lane p k (lane_count n k) = λ k l. lane-same n m k l h z in
-      rw (s 0 (omega arith), s 1 (omega arith), s 2 (omega arith), s 3 (omega arith), s 4 (omega arith), s 5 (omega arith), s 6 (omega arith), s 7 (omega arith))
-
 -- ---- a weight +0 and a finite window
 pub times_zero : (x : Float) → T (finite x) → Zero (x *f zero32)
 times_zero nan h = absurd h
@@ -75,16 +68,3 @@ zero_plus true true = record { sign = true; is = refl }
 zero_plus true false = record { sign = false; is = refl }
 zero_plus false true = record { sign = false; is = refl }
 zero_plus false false = record { sign = false; is = refl }
-
-module _ (h w : List Float) (i : ℕ) (a : T (finite (re_at h i))) (b : T (finite (im_at h i))) (c : re_at w i ≡ zero32) (d : im_at w i ≡ zero32) where
-  pub pad-re : Zero (prod_re h w i)
-  pad-re =
-      let x = times_zero (re_at h i) a in
-      let y = times_zero (im_at h i) b in
-      rw (c, d, x.is, y.is) (zero_minus x.sign y.sign)
-
-  pub pad-im : Zero (prod_im h w i)
-  pad-im =
-      let x = times_zero (re_at h i) a in
-      let y = times_zero (im_at h i) b in
-      rw (c, d, x.is, y.is) (zero_plus x.sign y.sign)

@@ -101,10 +101,6 @@ pub zero_freq_fits : T (freq_fits zero32)
 unfolding freq_fits
 zero_freq_fits = or_l (plus_zero zero32) (le tiny (abs zero32) && le (abs zero32) max_freq) zero_plus
 
-max_number : T (number max_freq)
-unfolding of_bits of_fields odd count_trailing_zeros
-max_number = tt
-
 max_finite : (v : Float) → T (le (abs v) max_freq) → T (finite v)
 unfolding of_bits of_fields odd count_trailing_zeros le lt eq
 max_finite nan h = h
