@@ -7,9 +7,8 @@ use native.Mathlib.Omega.{arith}
 use native.Mathlib.Nat.{le_of_eq}
 use native.Mathlib.Decide.{ℕ_discrete, dec_lt}
 use Rattle.std.proofs.lemmas.Bool.{both_ways, or_parts}
-use Rattle.std.proofs.lemmas.List.{get_or_past}
 use lib.ListN.{length, get_or, set, replicate, length-set, length-replicate, get_or-replicate}
-use lib.Seq.{get_or-set_same, get_or-set_other, ext_get_or}
+use lib.Seq.{get_or-set_same, get_or-set_other}
 use lib.Dec.{T}
 use lib.Ieee.{Float, nan}
 use lib.Ieee.Scale.{finite}
@@ -25,11 +24,11 @@ use Rattle.lanes.specs.Between.{Replaced}
 use Rattle.lanes.specs.Holds.{Lies, Half, Weights}
 use Rattle.lanes.specs.Adapts.{Ready, Adapts}
 use Rattle.lanes.proofs.Places.{lies_kept, half_kept}
-use Rattle.lanes_adapt.specs.Steps.{uneven, step_re, step_im, any_of, broken_at, clear_in}
-use Rattle.lanes_adapt.specs.Settled.{start_in, ruined, Settled}
+use Rattle.lanes_adapt.specs.Steps.{uneven, step_re, step_im, any_of, broken_at}
+use Rattle.lanes_adapt.specs.Settled.{ruined, Settled}
 use Rattle.lanes_adapt.proofs.Loops.{none_any}
 use Rattle.lanes_adapt.proofs.Update.{every_fine, fine_every}
-use Rattle.lanes_adapt.proofs.HalfStep.{Stepped, half_step, whole_fine, fine_whole, cleared_half, cleared_at, clear_all}
+use Rattle.lanes_adapt.proofs.HalfStep.{Stepped, half_step, whole_fine, fine_whole, cleared_half}
 
 -- ---- hold
 pub adapt_hold : (u : Update) (wr wi limit xr xi : List Float) (at lanes bt more centre : ℕ) → u ≡ Hold → Adapts u wr wi limit xr xi at lanes bt more centre wr wi
@@ -64,11 +63,6 @@ start_half N c o from base count a b two room g p q = record {
   where
     off : (i : ℕ) → i < 72 → (o + i ≡ c → ⊥) → get_or (set (replicate 144 zero32) c one32) (o + i) nan ≡ zero32
     off i l d = get_or-set_other (replicate 144 zero32) c (o + i) one32 nan d ∙ get_or-replicate 144 (o + i) zero32 nan (omega arith)
-
-all_zero : (w limit : List Float) (all : Bool) {l : List Float} → all ≡ true → length w ≡ 144 → Replaced (clear_in w limit all 0) 0 144 w l → l ≡ replicate 144 zero32
-all_zero w limit all {l} e n m =
-    let long : length l ≡ 144 = m.long ∙ n in
-    ext_get_or nan l (replicate 144 zero32) (simp length-replicate long) (λ k h. let b : k < 144 = omega arith in cleared_at w limit all m k b ∙ clear_all _ _ all e ∙ sym (get_or-replicate 144 k zero32 nan b))
 
 -- from wr, wi by the forward step to vr, vi, and by the feedback step to wr', wi'
 module _ (wr wi limit xr xi : List Float) (at lanes bt more centre : ℕ) (gr gi : Float) (vr vi wr' wi' : List Float)
@@ -118,16 +112,16 @@ module _ (wr wi limit xr xi : List Float) (at lanes bt more centre : ℕ) (gr gi
 
       -- padding alone
       kept_weights : ruined wr' wi' limit ≡ false → Weights n m wr'' wi'' (adapted (Step gr gi) (n + m) n w h)
-      unfolding adapted reset_unless start_in
+      unfolding adapted reset_unless
       kept_weights z =
           let f = whole_fine r.limits forth_lies r.weights.forth.room (omega arith) z in
           let b = whole_fine r.limits' back.lies room (omega arith) z in
-          let same : wr'' ≡ s.mid = s.started ∙ rw z in
+          let c = s.cleared z in
           let lr : length wr' ≡ 144 = br.long ∙ mr.long ∙ r.weights.forth.long in
           let li : length wi' ≡ 144 = bi.long ∙ mi.long ∙ r.weights.forth.long' in
-          rw (every_fine new n m new_long f b, same) (record {
-            forth = cleared_half r.limits forth_lies r.weights.forth.room (omega arith) _ s.re s.im z lr li;
-            back = cleared_half r.limits' back.lies room (omega arith) _ s.re s.im z lr li;
+          rw (every_fine new n m new_long f b) (record {
+            forth = cleared_half r.limits forth_lies r.weights.forth.room (omega arith) c.0 c.1 lr li;
+            back = cleared_half r.limits' back.lies room (omega arith) c.0 c.1 lr li;
             taps = new_long;
           })
 
@@ -145,12 +139,10 @@ module _ (wr wi limit xr xi : List Float) (at lanes bt more centre : ℕ) (gr gi
               rw e at (fine_whole r.limits' back.lies room (omega arith) (fine_every new n m (omega (arith, new_long)) t) (k - 72) (omega arith))
 
       start_weights_held : ruined wr' wi' limit ≡ true → Weights n m wr'' wi'' (adapted (Step gr gi) (n + m) n w h)
-      unfolding adapted reset_unless start_in
+      unfolding adapted reset_unless
       start_weights_held z =
-          let zr = all_zero wr' limit _ z (br.long ∙ mr.long ∙ r.weights.forth.long) s.re in
-          let zi = all_zero wi' limit _ z (bi.long ∙ mi.long ∙ r.weights.forth.long') s.im in
-          let same : wr'' ≡ set (replicate 144 zero32) (n / 2) one32 = s.started ∙ rw (z, zr, r.middle) in
-          rw (not_every z, same, zi) (record {
+          let c = s.started z in
+          rw (not_every z, c.0, c.1, r.middle) (record {
             forth = start_half (n + m) (n / 2) 0 0 0 n (omega (arith, r.some)) (omega arith) (omega arith) (omega (arith, r.most)) (omega (arith, r.most)) (λ i e. (omega arith, (omega (arith, r.some), omega arith))) (λ j l e. omega arith);
             back = start_half (n + m) (n / 2) 72 (n % 8) n m (omega (arith, r.some)) (omega arith) (omega arith) room (omega (arith, r.most)) (λ i e. absurd (omega (arith, r.most))) (λ j l e. absurd (omega (arith, r.some)));
             taps = length_start (n + m) (n / 2);
@@ -173,26 +165,3 @@ module _ (wr wi limit xr xi : List Float) (at lanes bt more centre : ℕ) (gr gi
   adapt_settled u wr'' wi'' e s = record {
     holds = λ n m w h r. rw e (settled_go n m w h r wr'' wi'' s (ruined wr' wi' limit) refl);
   }
-
--- ---- the exits of `settle`
-zeros : (w limit : List Float) (all : Bool) → all ≡ true → length w ≡ 144 → Replaced (clear_in w limit all 0) 0 144 w (replicate 144 zero32)
-zeros w limit all e n = record {
-  long = simp length-replicate (sym n);
-  done = λ k p q. get_or-replicate 144 k zero32 nan q ∙ sym (clear_all _ _ all e);
-  low = λ k p. absurd (omega arith);
-  high = λ k p. get_or_past (replicate 144 zero32) k nan (simp length-replicate p) ∙ sym (get_or_past w k nan (omega arith));
-}
-
-pub settled_start : (wr wi limit : List Float) (centre : ℕ) (b : Bool) (wr' wi' : List Float) → length wr ≡ 144 → length wi ≡ 144 → b ≡ ruined wr wi limit → b ≡ true
-    → wr' ≡ set (replicate 144 zero32) centre one32 → wi' ≡ replicate 144 zero32 → Settled wr wi limit centre wr' wi'
-unfolding start_in
-settled_start wr wi limit centre b wr' wi' l m e t p q =
-    let a : ruined wr wi limit ≡ true = sym e ∙ t in
-    record { mid = replicate 144 zero32; re = zeros wr limit _ a l; started = p ∙ rw a refl; im = rw q (zeros wi limit _ a m) }
-
-pub settled_kept : (wr wi limit : List Float) (centre : ℕ) (b : Bool) (wr' wi' : List Float) → b ≡ ruined wr wi limit → b ≡ false
-    → Replaced (clear_in wr limit false 0) 0 144 wr wr' → Replaced (clear_in wi limit false 0) 0 144 wi wi' → Settled wr wi limit centre wr' wi'
-unfolding start_in
-settled_kept wr wi limit centre b wr' wi' e t r i =
-    let a : ruined wr wi limit ≡ false = sym e ∙ t in
-    record { mid = wr'; re = rw a r; started = rw a refl; im = rw a i }

@@ -1,7 +1,7 @@
 -- A step of one half of the lanes, then perhaps the clearing of padding. Assumes nothing.
 use Prim.Native.Nat.{ℕ, ◌+◌, ◌-◌, ◌<◌, ◌≤◌}
-use mathlib.Core.Path.{◌≡◌, refl, sym, ◌∙◌}
-use mathlib.Core.Bool.{Bool, true, false}
+use mathlib.Core.Path.{◌≡◌, sym, ◌∙◌}
+use mathlib.Core.Bool.{Bool, false}
 use mathlib.Core.List.{List}
 use native.Mathlib.Omega.{arith}
 use native.Mathlib.Decide.{dec_lt}
@@ -29,21 +29,16 @@ pad_at : (f : ℕ → Float) (o K i : ℕ) {old new : List Float} → Replaced f
 pad_at f o K i m z p (yes b) = replaced_at f o K m i b ∙ p b
 pad_at f o K i m z p (no b) = m.high (o + i) (omega arith) ∙ z
 
-clear_tap : (v l : Float) (all : Bool) → l ≡ tiny → all ≡ false → clear_of v l all ≡ v
+clear_tap : (v l : Float) → l ≡ tiny → clear_of v l ≡ v
 unfolding clear_of
-clear_tap v l all e f = rw (e, f, tiny_not_high)
+clear_tap v l e = rw (e, tiny_not_high)
 
-clear_pad : (v l : Float) (all : Bool) → l ≡ inf false → clear_of v l all ≡ zero32
+clear_pad : (v l : Float) → l ≡ inf false → clear_of v l ≡ zero32
 unfolding clear_of
-clear_pad v l true e = refl
-clear_pad v l false e = rw (e, top_high)
+clear_pad v l e = rw (e, top_high)
 
-pub clear_all : (v l : Float) (all : Bool) → all ≡ true → clear_of v l all ≡ zero32
-unfolding clear_of
-clear_all v l all e = rw e
-
-pub cleared_at : (w limit : List Float) (all : Bool) {l : List Float} → Replaced (clear_in w limit all 0) 0 144 w l → (k : ℕ) → k < 144 → get_or l k nan ≡ clear_of (get_or w k nan) (get_or limit k nan) all
-cleared_at w limit all m k h = let e : 0 + k ≡ k = omega arith in rw e at (replaced_at (clear_in w limit all 0) 0 144 m k h)
+cleared_at : (w limit : List Float) {l : List Float} → Replaced (clear_in w limit) 0 144 w l → (k : ℕ) → k < 144 → get_or l k nan ≡ clear_of (get_or w k nan) (get_or limit k nan)
+cleared_at w limit m k h = let e : 0 + k ≡ k = omega arith in rw e at (replaced_at (clear_in w limit) 0 144 m k h)
 
 broken_tap : (r m l : Float) → l ≡ tiny → broken_at r m l ≡ uneven r m
 unfolding broken_at
@@ -145,21 +140,21 @@ module _ {re im limit : List Float} {o from : ℕ} {y : List Float} {base count 
           ∙ rw (rw z at (s.re_is (i - from) k), rw z at (s.im_is (i - from) k)) (fine_even _ _ (f (i - from) k).0 (f (i - from) k).1)
 
   -- cleared
-  module _ {re' im' : List Float} (all : Bool) (cr : Replaced (clear_in re limit all 0) 0 144 re re') (ci : Replaced (clear_in im limit all 0) 0 144 im im') where
+  module _ {re' im' : List Float} (cr : Replaced (clear_in re limit) 0 144 re re') (ci : Replaced (clear_in im limit) 0 144 im im') where
     clean : (lo hi : ℕ) → hi ≤ 72 → ((i : ℕ) → lo ≤ i → i < hi → get_or limit (o + i) nan ≡ inf false) → Unused re' im' o lo hi
     clean lo hi b t = record {
-      re_zero = λ i p q. cleared_at re limit all cr (o + i) (omega arith) ∙ clear_pad _ _ all (t i p q);
-      im_zero = λ i p q. cleared_at im limit all ci (o + i) (omega arith) ∙ clear_pad _ _ all (t i p q);
+      re_zero = λ i p q. cleared_at re limit cr (o + i) (omega arith) ∙ clear_pad _ _ (t i p q);
+      im_zero = λ i p q. cleared_at im limit ci (o + i) (omega arith) ∙ clear_pad _ _ (t i p q);
     }
 
-    pub cleared_half : all ≡ false → length re ≡ 144 → length im ≡ 144 → Half re' im' o from y base count
-    cleared_half q lr li = record {
+    pub cleared_half : length re ≡ 144 → length im ≡ 144 → Half re' im' o from y base count
+    cleared_half lr li = record {
       long = cr.long ∙ lr;
       long' = ci.long ∙ li;
       room = room;
       lies = record {
-        re_is = λ j b. let z : o + from + j ≡ o + (from + j) = omega arith in cleared_at re limit all cr (o + from + j) (omega arith) ∙ clear_tap _ _ all (rw z (l.inside j b)) q ∙ s.re_is j b;
-        im_is = λ j b. let z : o + from + j ≡ o + (from + j) = omega arith in cleared_at im limit all ci (o + from + j) (omega arith) ∙ clear_tap _ _ all (rw z (l.inside j b)) q ∙ s.im_is j b;
+        re_is = λ j b. let z : o + from + j ≡ o + (from + j) = omega arith in cleared_at re limit cr (o + from + j) (omega arith) ∙ clear_tap _ _ (rw z (l.inside j b)) ∙ s.re_is j b;
+        im_is = λ j b. let z : o + from + j ≡ o + (from + j) = omega arith in cleared_at im limit ci (o + from + j) (omega arith) ∙ clear_tap _ _ (rw z (l.inside j b)) ∙ s.im_is j b;
       };
       early = clean 0 from (omega arith) (λ i p b. l.early i b);
       late = clean (from + count) 72 (omega arith) l.late;

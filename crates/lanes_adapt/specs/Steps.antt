@@ -21,8 +21,8 @@ lane_im w l a b gr gi = kept_of (w -f (gi *f a -f gr *f b)) l
 unfoldable pub broken_at : Float → Float → Float → Bool
 broken_at r m l = lt l one32 && uneven r m
 
-unfoldable pub clear_of : Float → Float → Bool → Float
-clear_of v l all = cond (all || lt one32 l) zero32 v
+unfoldable pub clear_of : Float → Float → Float
+clear_of v l = cond (lt one32 l) zero32 v
 
 -- whether p holds of one of 0 .. n - 1
 unfoldable pub any_of : ℕ → (ℕ → Bool) → Bool
@@ -36,6 +36,6 @@ step_re w limit xr xi at o gr gi i = lane_re (get_or w (o + i) nan) (get_or limi
 abbrev pub step_im : List Float → List Float → List Float → List Float → ℕ → ℕ → Float → Float → ℕ → Float
 step_im w limit xr xi at o gr gi i = lane_im (get_or w (o + i) nan) (get_or limit (o + i) nan) (get_or xr (at + i) nan) (get_or xi (at + i) nan) gr gi
 
--- lane o + i cleared
-abbrev pub clear_in : List Float → List Float → Bool → ℕ → ℕ → Float
-clear_in w limit all o i = clear_of (get_or w (o + i) nan) (get_or limit (o + i) nan) all
+-- lane i cleared
+abbrev pub clear_in : List Float → List Float → ℕ → Float
+clear_in w limit i = clear_of (get_or w i nan) (get_or limit i nan)

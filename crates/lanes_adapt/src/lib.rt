@@ -84,14 +84,14 @@ fn broken(w: &Weights, limit: &[f32; LANES]) -> bool
 // +0 for padding.
 #[tactic(auto, unfolding(crate::specs::Steps::clear_of))]
 fn clear(v: f32, limit: f32) -> f32
-    ensures { result ≡ clear_of v limit false }
+    ensures { result ≡ clear_of v limit }
 {
     if is_padding(limit) { 0.0 } else { v }
 }
 
 // Padding back to +0. The limit by an index: behind a `zip` of `iter_mut` a proof knows no element.
 fn cleared(w: &mut [f32; LANES], limit: &[f32; LANES])
-    ensures { Replaced (clear_in w.old limit.now false 0) 0 144 w.old w.new }
+    ensures { Replaced (clear_in w.old limit.now) 0 144 w.old w.new }
 {
     for (k, v) in w.iter_mut().enumerate() {
         *v = clear(*v, limit[k]);
@@ -99,7 +99,6 @@ fn cleared(w: &mut [f32; LANES], limit: &[f32; LANES])
 }
 
 // After a lane that is not finite: the start weights if it is a weight's.
-#[tactic(auto, using(crate::proofs::Adaptation::settled_start, crate::proofs::Adaptation::settled_kept))]
 fn settle(w: &mut Weights, limit: &[f32; LANES], centre: usize)
     requires { centre < 144 }
     ensures { Settled w.old.re w.old.im limit.now centre w.new.re w.new.im }
