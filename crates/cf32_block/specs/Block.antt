@@ -1,14 +1,8 @@
 -- One call of the equalizer from bytes to bytes: the floats of the input are equalized, and where the call is served the output's floats are written.
-use Rattle.std.specs.Prelude.{ℕ, Bool, true, false, cond, List, Float, Ok, Err}
-use Rattle.definition.specs.Refusals.{Outcome}
+use Rattle.std.specs.Prelude.{ℕ, cond, is_ok, List, Float}
 use Rattle.definition.specs.Sample.{Equalizer}
 use Rattle.definition.specs.Calls.{Answer, equalize_def}
 use Rattle.cf32.specs.Bytes.{read_into, write_over}
-
--- Whether a call was served.
-abbrev pub served : Outcome → Bool
-served (Ok tt) = true
-served (Err e) = false
 
 -- What a call from bytes to bytes answers: the equalizer's answer over the floats, the floats of the input, the bytes of the output.
 pub record BytesAnswer : Type 0 where
@@ -21,7 +15,7 @@ bytes_answer a xs out = record { answer = a; read = xs; out = out }
 
 -- The output's bytes after an answer: its floats where the call was served, and as they were where it was refused.
 abbrev pub bytes_of : Answer → List ℕ → List ℕ
-bytes_of a out = cond (served a.outcome) (write_over a.out out) out
+bytes_of a out = cond (is_ok a.outcome) (write_over a.out out) out
 
 -- bs are the bytes of the input; x and y are what the slices lent for the floats of input and output hold before the call, out and ms what those of the
 -- output's bytes and of the marks do.

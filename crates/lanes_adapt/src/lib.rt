@@ -49,7 +49,7 @@ fn update_half(w: &mut Weights, limit: &[f32; LANES], h: &Window, p: Half, g: C3
     bad
 }
 
-// Whether a lane is a weight's, by its limit: TINY, and infinity for padding.
+// Whether a lane is a weight's, by its limit: TINY, and infinity for padding. A number and no enum beside it: it is what `flush_below` compares with.
 fn is_weight(limit: f32) -> bool
     ensures { result ≡ lt limit one32 }
 {
