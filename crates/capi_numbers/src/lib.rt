@@ -77,14 +77,8 @@ impl TryFrom<EqSettings> for EqParams {
     fn try_from(p: EqSettings) -> Result<EqParams, UnknownNumber>
         ensures { result ≡ read_settings p }
     {
-        Ok(EqParams {
-            constellation: EqConstellation::try_from(p.constellation)?,
-            feedback_taps: p.feedback_taps,
-            mu_cma: p.mu_cma,
-            mu_dd: p.mu_dd,
-            cma_symbols: p.cma_symbols,
-            phase_bw: p.phase_bw,
-        })
+        EqConstellation::try_from(p.constellation)?;
+        Ok(p.params())
     }
 }
 
@@ -130,16 +124,9 @@ impl TryFrom<EqRecord> for EqualizeState {
     fn try_from(r: EqRecord) -> Result<EqualizeState, UnknownNumber>
         ensures { result ≡ read_record r }
     {
-        Ok(EqualizeState {
-            params: EqParams::try_from(r.settings)?,
-            kp: r.kp,
-            ki: r.ki,
-            mode: EqMode::try_from(r.mode)?,
-            count: r.count,
-            mse: r.mse,
-            phase: r.phase,
-            freq: r.freq,
-        })
+        EqParams::try_from(r.settings)?;
+        EqMode::try_from(r.mode)?;
+        Ok(r.state())
     }
 }
 
@@ -198,11 +185,7 @@ impl EqReply {
     fn refused(record: EqRecord, e: Error) -> EqReply
         ensures { result ≡ replied «record» (reply_of (Err e)) }
     {
-        let none = Lengths {
-            expected: 0,
-            got: 0,
-        };
-        let Lengths { expected, got } = e.lengths().unwrap_or(none);
+        let Lengths { expected, got } = e.lengths().unwrap_or_default();
         EqReply {
             record,
             number: u32::from(e),

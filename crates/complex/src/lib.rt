@@ -2,7 +2,7 @@
 #![tactic(auto)]
 
 ghost use Rattle.std.specs.Prelude.{◌≡◌, ◌+◌, ◌*◌, ◌<◌, length, slice_set};
-ghost use Rattle.definition.specs.Floats.{◌+f◌, ◌-f◌, ◌*f◌, complex, norm};
+ghost use Rattle.definition.specs.Floats.{◌+f◌, ◌-f◌, ◌*f◌, complex, norm, times_c};
 ghost use Rattle.definition.specs.Slices.{re_at, im_at};
 
 use types::C32;
@@ -30,8 +30,9 @@ pub fn put(x: &mut [f32], i: usize, v: C32)
 }
 
 // a·b
+#[tactic(auto, unfolding(definition::specs::Floats::times_c))]
 pub fn times(a: C32, b: C32) -> C32
-    ensures { result ≡ complex (a.re *f b.re -f a.im *f b.im) (a.re *f b.im +f a.im *f b.re) }
+    ensures { result ≡ times_c a b }
 {
     C32 {
         re: a.re * b.re - a.im * b.im,

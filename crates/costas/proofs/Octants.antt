@@ -31,15 +31,15 @@ module _ (y : C32) where
 
 module _ (P : ℕ → Type 0) (a0 : P 0) (a1 : P 1) (a2 : P 2) (a3 : P 3) (a4 : P 4) (a5 : P 5) (a6 : P 6) (a7 : P 7) where
   each : (q1 q2 q3 q4 wide tall : Bool) → P (number q1 q2 q3 q4 wide tall)
-  each true q2 q3 q4 true t = a0
-  each true q2 q3 q4 false t = a1
-  each false true q3 q4 w true = a2
-  each false true q3 q4 w false = a3
-  each false false true q4 true t = a4
-  each false false true q4 false t = a5
-  each false false false true w true = a6
-  each false false false true w false = a7
-  each false false false false w t = a0
+  each true _ _ _ true _ = a0
+  each true _ _ _ false _ = a1
+  each false true _ _ _ true = a2
+  each false true _ _ _ false = a3
+  each false false true _ true _ = a4
+  each false false true _ false _ = a5
+  each false false false true _ true = a6
+  each false false false true _ false = a7
+  each false false false false _ _ = a0
 
   at-octant : (y : C32) → P (octant y)
   unfolding octant

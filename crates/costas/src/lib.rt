@@ -40,7 +40,7 @@ pub fn derotate(x: C32, t: CosSin) -> C32
 }
 
 // v turned by the angle of t: v exp(j phi).
-#[tactic(auto, unfolding(definition::specs::Turns::rotated))]
+#[tactic(auto, unfolding(definition::specs::Turns::rotated, definition::specs::Floats::times_c))]
 pub fn rotate(v: C32, t: CosSin) -> C32
     ensures { result ≡ rotated v t }
 {

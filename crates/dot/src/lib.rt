@@ -23,6 +23,7 @@ pub struct Re;
 impl Part for Re {
     ghost product = { product_re };
 
+    #[tactic(auto, unfolding(definition::specs::Floats::times_c))]
     fn product(x: C32, w: C32) -> f32 {
         complex::times(x, w).re
     }
@@ -34,6 +35,7 @@ pub struct Im;
 impl Part for Im {
     ghost product = { product_im };
 
+    #[tactic(auto, unfolding(definition::specs::Floats::times_c))]
     fn product(x: C32, w: C32) -> f32 {
         complex::times(x, w).im
     }

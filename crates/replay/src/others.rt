@@ -101,11 +101,8 @@ fn numbers_of(outcome: Result<(), Error>) -> [u64; 3] {
     let Err(e) = outcome else {
         return [0, 0, 0];
     };
-    let number = u64::from(u32::from(e));
-    match e.lengths() {
-        Some(l) => [number, l.expected as u64, l.got as u64],
-        None => [number, 0, 0],
-    }
+    let l = e.lengths().unwrap_or_default();
+    [u64::from(u32::from(e)), l.expected as u64, l.got as u64]
 }
 
 pub(crate) fn agrees(w: &[u64]) -> Option<bool> {

@@ -11,7 +11,7 @@ pub struct UnknownNumber {
 }
 
 // The two lengths of a refusal: the one that was wanted, and the one that came.
-#[derive(Clone, Copy, Debug, PartialEq, Eq)]
+#[derive(Clone, Copy, Debug, Default, PartialEq, Eq)]
 pub struct Lengths {
     pub expected: usize,
     pub got: usize,
