@@ -2,7 +2,7 @@
 #![tactic(auto)]
 
 ghost use Rattle.std.specs.Prelude.{◌≡◌, ◌+◌, ◌*◌, ◌<◌, length, slice_set};
-ghost use Rattle.definition.specs.Floats.{◌+f◌, ◌-f◌, ◌*f◌, complex, norm, times_c};
+ghost use Rattle.definition.specs.Floats.{◌+f◌, ◌-f◌, ◌*f◌, complex, norm};
 ghost use Rattle.definition.specs.Slices.{re_at, im_at};
 
 use types::C32;
@@ -29,18 +29,7 @@ pub fn put(x: &mut [f32], i: usize, v: C32)
     x[j + 1] = v.im;
 }
 
-// a·b
-#[tactic(auto, unfolding(definition::specs::Floats::times_c))]
-pub fn times(a: C32, b: C32) -> C32
-    ensures { result ≡ times_c a b }
-{
-    C32 {
-        re: a.re * b.re - a.im * b.im,
-        im: a.re * b.im + a.im * b.re,
-    }
-}
-
-// a·conj(b)
+// a·conj(b), its sums in the specification's order: no `conj` before a `*`, which would take the differences of their negatives.
 pub fn times_conj(a: C32, b: C32) -> C32
     ensures { result ≡ complex (a.re *f b.re +f a.im *f b.im) (a.im *f b.re -f a.re *f b.im) }
 {

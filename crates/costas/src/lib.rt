@@ -44,7 +44,7 @@ pub fn derotate(x: C32, t: CosSin) -> C32
 pub fn rotate(v: C32, t: CosSin) -> C32
     ensures { result ≡ rotated v t }
 {
-    complex::times(v, C32 { re: t.c, im: t.s })
+    v * C32 { re: t.c, im: t.s }
 }
 
 // Whether u is larger than v in magnitude.

@@ -25,7 +25,7 @@ impl Part for Re {
 
     #[tactic(auto, unfolding(definition::specs::Floats::times_c))]
     fn product(x: C32, w: C32) -> f32 {
-        complex::times(x, w).re
+        (x * w).re
     }
 }
 
@@ -37,7 +37,7 @@ impl Part for Im {
 
     #[tactic(auto, unfolding(definition::specs::Floats::times_c))]
     fn product(x: C32, w: C32) -> f32 {
-        complex::times(x, w).im
+        (x * w).im
     }
 }
 

@@ -15,9 +15,11 @@ use Rattle.definition.specs.Slices.{re_at, im_at, updated}
 use Rattle.lanes.specs.Between.{Replaced}
 use Rattle.lanes.specs.Holds.{Lies, Unused, Half, Limits}
 use Rattle.lanes.proofs.Between.{replaced_at}
-use Rattle.lanes_adapt.specs.Steps.{kept_of, uneven, lane_re, lane_im, step_re, step_im, any_of, broken_at, clear_of, clear_in}
+use Rattle.numeric.proofs.Leaves.{kept_tiny}
+use Rattle.numeric.specs.Below.{kept_of}
+use Rattle.lanes_adapt.specs.Steps.{uneven, lane_re, lane_im, step_re, step_im, any_of, broken_at, clear_of, clear_in}
 use Rattle.lanes_adapt.specs.Settled.{ruined}
-use Rattle.lanes_adapt.proofs.Tests.{kept_tiny, kept_top_fine, even_fine, fine_even, tiny_low, tiny_not_high, top_not_low, top_high}
+use Rattle.lanes_adapt.proofs.Tests.{kept_top_fine, even_fine, fine_even, tiny_low, tiny_not_high, top_not_low, top_high}
 use Rattle.lanes_adapt.proofs.Loops.{any_false}
 use Rattle.lanes_adapt.proofs.Update.{Fine, updated_at}
 

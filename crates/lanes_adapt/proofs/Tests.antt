@@ -11,13 +11,9 @@ use lib.Ieee.Fits.{and_i, and_l, and_r}
 use lib.Ieee.Scale.{finite}
 use Rattle.laws.specs.Exact.{minus_itself}
 use Rattle.types.specs.Bits.{zero32, one32}
-use Rattle.definition.specs.Floats.{◌-f◌, tiny, flush}
-use Rattle.definition_laws.proofs.Parts.{both_tests}
-use Rattle.lanes_adapt.specs.Steps.{kept_of, uneven}
-
-pub kept_tiny : (v : Float) → kept_of v tiny ≡ flush v
-unfolding kept_of flush
-kept_tiny v = rw (both_tests v)
+use Rattle.definition.specs.Floats.{◌-f◌, tiny}
+use Rattle.numeric.specs.Below.{kept_of}
+use Rattle.lanes_adapt.specs.Steps.{uneven}
 
 -- where padding stays finite it was finite
 pub kept_top_fine : (v : Float) → T (finite (kept_of v (inf false))) → kept_of v (inf false) ≡ zero32

@@ -1,22 +1,14 @@
 -- The weights' step on split lanes, by index.
 use Rattle.std.specs.Prelude.{ℕ, zero, suc, ◌+◌, Bool, false, cond, ◌&&◌, ◌||◌, List, get_or, Float}
 use Rattle.std.specs.Float.{nan}
-use Rattle.std.specs.Float.Ieee.{lt, ne, neg}
+use Rattle.std.specs.Float.Ieee.{lt, ne}
 use Rattle.types.specs.Bits.{zero32, one32}
-use Rattle.definition.specs.Floats.{◌+f◌, ◌-f◌, ◌*f◌}
+use Rattle.definition.specs.Floats.{◌-f◌}
 pub use Rattle.lanes.specs.Between.{Replaced}
-
-unfoldable pub kept_of : Float → Float → Float
-kept_of v l = cond (lt v l && lt (neg l) v) zero32 v
+unfoldable pub use Rattle.steps.specs.Weight.{lane_re, lane_im}
 
 unfoldable pub uneven : Float → Float → Bool
 uneven r m = ne (r -f r) (m -f m)
-
-unfoldable pub lane_re : Float → Float → Float → Float → Float → Float → Float
-lane_re w l a b gr gi = kept_of (w -f (gr *f a +f gi *f b)) l
-
-unfoldable pub lane_im : Float → Float → Float → Float → Float → Float → Float
-lane_im w l a b gr gi = kept_of (w -f (gi *f a -f gr *f b)) l
 
 unfoldable pub broken_at : Float → Float → Float → Bool
 broken_at r m l = lt l one32 && uneven r m

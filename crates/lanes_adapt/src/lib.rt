@@ -19,20 +19,7 @@ fn apart(v: C32) -> bool
     (v.re - v.re) != (v.im - v.im)
 }
 
-// The weight w after a step by g·conj(x), +0 in a part below the lane's limit: TINY, and infinity for padding.
-#[tactic(auto, unfolding(crate::specs::Steps::lane_re, crate::specs::Steps::lane_im, crate::specs::Steps::kept_of))]
-fn stepped(w: C32, limit: f32, x: C32, g: C32) -> C32
-    ensures re { result.re ≡ lane_re w.re limit x.re x.im g.re g.im }
-    ensures im { result.im ≡ lane_im w.im limit x.re x.im g.re g.im }
-{
-    let v = w - complex::times_conj(g, x);
-    C32 {
-        re: numeric::flush_below(v.re, limit),
-        im: numeric::flush_below(v.im, limit),
-    }
-}
-
-// A step of one half's lanes; whether some lane is not finite. By an index: it is a place in two structs and an array. No `any` for the flag: it leaves early.
+// A step of one half's lanes, +0 in a part below the lane's limit: TINY, and infinity for padding; whether some lane is not finite. By an index: it is a place in two structs and an array. No `any` for the flag: it leaves early.
 #[tactic(auto, using(crate::proofs::HalfLoop::half_none))]
 fn update_half(w: &mut Weights, limit: &[f32; LANES], h: &Window, p: Half, g: C32) -> bool
     ensures re { Replaced (step_re w.old.re limit.now h.now.values.re h.now.values.im p.at p.from g.re g.im) p.from p.lanes w.old.re w.new.re }
@@ -42,7 +29,7 @@ fn update_half(w: &mut Weights, limit: &[f32; LANES], h: &Window, p: Half, g: C3
     let mut bad = false;
     for i in 0..p.lanes {
         let k = p.from + i;
-        let v = stepped(w.at(k), limit[k], h.values.at(p.at + i), g);
+        let v = steps::weight(w.at(k), limit[k], h.values.at(p.at + i), g);
         w.put(k, v);
         bad |= apart(v);
     }

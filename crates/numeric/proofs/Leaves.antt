@@ -9,6 +9,8 @@ use Rattle.std.specs.Float.{float_is_finite, float_with_sign}
 use Rattle.laws.specs.Order.{number, le_of_not_lt, le_itself, neg_number}
 use Rattle.types.specs.Bits.{zero32}
 use Rattle.definition.specs.Floats.{abs, tiny, flush, clip}
+use Rattle.definition_laws.proofs.Parts.{both_tests}
+use Rattle.numeric.specs.Below.{kept_of}
 
 -- ---- the library's test for a finite float, and its magnitude, are the definition's
 
@@ -23,6 +25,10 @@ unfolding float_with_sign
 sign_abs nan = refl
 sign_abs (inf s) = refl
 sign_abs (fin s m e) = refl
+
+pub kept_tiny : (v : Float) → kept_of v tiny ≡ flush v
+unfolding kept_of flush
+kept_tiny v = rw (both_tests v)
 
 -- ---- LAW: what `flush` gives of a finite x is +0, or finite and no smaller than `tiny`
 abbrev pub Flushed : Float → Type 0

@@ -9,7 +9,9 @@ ghost use Rattle.std.specs.Float.Ieee.Nearest.{closest};
 ghost use Rattle.std.specs.Float.Ieee.Scale.{finite};
 ghost use Rattle.definition.specs.Sample.{sanitized};
 ghost use Rattle.definition.specs.Floats.{flush, clip as clipDef, narrow as narrowDef, finite_c};
+ghost use Rattle.numeric.specs.Below.{kept_of};
 
+use std::cmp::Ordering;
 use types::C32;
 
 // A value below this magnitude is flushed to +0.
@@ -40,14 +42,15 @@ pub fn sanitize(v: C32) -> C32
 }
 
 // +0 where |x| is below a limit, else x. A NaN stays a NaN. Two tests: by `x.abs()` a flush and a clip, each feeding the next, took 8.0 ns and not 5.8.
+#[tactic(auto, unfolding(crate::specs::Below::kept_of))]
 pub fn flush_below(x: f32, limit: f32) -> f32
-    ensures { result ≡ cond (lt x limit && lt (neg limit) x) zero32 x }
+    ensures { result ≡ kept_of x limit }
 {
     if (x < limit) & (x > -limit) { 0.0 } else { x }
 }
 
 // +0 where |x| is below 1e-30, else x.
-#[tactic(auto, unfolding(definition::specs::Floats::flush), using(definition_laws::proofs::Parts::both_tests))]
+#[tactic(auto, using(crate::proofs::Leaves::kept_tiny))]
 pub fn flush_denormal(x: f32) -> f32
     ensures { result ≡ flush x }
 {
@@ -77,16 +80,14 @@ fn nearest(g: u64, d: u64) -> u64
     let q = g >> d;
     let r = g & ((1u64 << d) - 1);
     let half = 1u64 << (d - 1);
-    if r < half {
-        q
-    } else if half < r {
-        q + 1
-    } else {
-        q + (q & 1)
+    match r.cmp(&half) {
+        Ordering::Less => q,
+        Ordering::Equal => q + (q & 1),
+        Ordering::Greater => q + 1,
     }
 }
 
-// The f32 with the bits p, and the sign of the f64 with the bits `bits`.
+// The f32 with the bits p, and the sign of the f64 with the bits `bits`: on the bits, as the specification has `narrow`.
 #[tactic(auto, using(crate::proofs::Digits::plain_ok, crate::proofs::Digits::signed_ok))]
 fn with_sign(bits: u64, p: u64) -> f32
     requires { p ≤ 0x7f80_0000 }

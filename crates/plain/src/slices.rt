@@ -32,17 +32,6 @@ pub(crate) fn window_power(x: &[f32], from: usize, first: f32, n: usize) -> f32
     )
 }
 
-// One weight of the update: w - g conj(x), flushed by parts.
-fn update_weight(w: C32, g: C32, x: C32) -> C32
-    ensures { (result.re ≡ flush (w.re -f (g.re *f x.re +f g.im *f x.im))) × (result.im ≡ flush (w.im -f (g.im *f x.re -f g.re *f x.im))) }
-{
-    let v = w - complex::times_conj(g, x);
-    C32 {
-        re: numeric::flush_denormal(v.re),
-        im: numeric::flush_denormal(v.im),
-    }
-}
-
 // The first n weights renewed. By their places: of `as_chunks_mut` the library says what the pairs hold at first, and not what the slice holds once they are
 // written.
 fn renew(w: &mut [f32], x: &[f32], g: C32, n: usize)
@@ -50,7 +39,8 @@ fn renew(w: &mut [f32], x: &[f32], g: C32, n: usize)
     ensures { w.new ≡ updated n g w.old x.now }
 {
     for i in 0..n {
-        complex::put(w, i, update_weight(complex::at(w, i), g, complex::at(x, i)));
+        let v = steps::weight(complex::at(w, i), numeric::TINY, complex::at(x, i), g);
+        complex::put(w, i, v);
     }
 }
 

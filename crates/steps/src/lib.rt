@@ -1,4 +1,4 @@
-// One sample after its filter sum: tracker, decision, error, update, and what the sample gives.
+// One sample after its filter sum: tracker, decision, error, update, what the sample gives, and a weight after the update.
 #![tactic(auto)]
 
 ghost use Rattle.std.specs.Prelude.{◌≡◌, true, ◌+◌, ◌%◌, ◌^◌, if◌then◌else◌};
@@ -8,6 +8,7 @@ ghost use Rattle.definition.specs.Phase.{phase_step};
 ghost use Rattle.definition.specs.Sample.{mse_after, godard_error, phase_error, mu_of, step_size};
 ghost use Rattle.definition.specs.Rules.{rule_r4};
 ghost use Rattle.steps.specs.Step.{track_of, aimed, update_if, step_with, step_of, running_of, with_track, heard_of, unheard_of, sampled_of};
+ghost use Rattle.steps.specs.Weight.{lane_re, lane_im};
 
 use types::{C32, CosSin, EqMode, EqualizeState, Mark, Update};
 
@@ -277,4 +278,17 @@ pub fn size_of(s: EqualizeState, power: f32) -> f32
     ensures { result ≡ step_size (mu_of s.mode s.params) power }
 {
     step_size(mu_of(s), power)
+}
+
+// The weight w after a step by g·conj(x), +0 in a part below a limit.
+#[tactic(auto, unfolding(crate::specs::Weight::lane_re, crate::specs::Weight::lane_im))]
+pub fn weight(w: C32, limit: f32, x: C32, g: C32) -> C32
+    ensures re { result.re ≡ lane_re w.re limit x.re x.im g.re g.im }
+    ensures im { result.im ≡ lane_im w.im limit x.re x.im g.re g.im }
+{
+    let v = w - complex::times_conj(g, x);
+    C32 {
+        re: numeric::flush_below(v.re, limit),
+        im: numeric::flush_below(v.im, limit),
+    }
 }

@@ -7,12 +7,12 @@ mod words;
 
 ghost use Rattle.std.specs.Prelude.{◌≡◌, ◌-◌, ◌/◌, length};
 ghost use Rattle.std.specs.Float.{binary32};
-ghost use Rattle.std.specs.Float.Ieee.{sub};
+ghost use Rattle.std.specs.Float.Ieee.{add, mul, sub};
 ghost use Rattle.types.specs.Bits.{f32 as f32Of, f64 as f64Of};
 ghost use Rattle.types.specs.Start.{start_mode, start_state};
 
 pub use numbers::{Lengths, UnknownNumber};
-use std::ops::Sub;
+use std::ops::{Mul, Sub};
 pub use words::UnknownWord;
 
 // A complex sample: two f32, real part first.
@@ -33,6 +33,23 @@ impl Sub for C32 {
         C32 {
             re: self.re - b.re,
             im: self.im - b.im,
+        }
+    }
+}
+
+// The complex product.
+impl Mul for C32 {
+    type Output = C32;
+
+    ghost mul_gives = { λ a b c. c ≡ record {
+      re = sub binary32 (mul binary32 a.re b.re) (mul binary32 a.im b.im);
+      im = add binary32 (mul binary32 a.re b.im) (mul binary32 a.im b.re);
+    } };
+
+    fn mul(self, b: C32) -> C32 {
+        C32 {
+            re: self.re * b.re - self.im * b.im,
+            im: self.re * b.im + self.im * b.re,
         }
     }
 }

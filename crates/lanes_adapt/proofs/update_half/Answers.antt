@@ -5,6 +5,6 @@ use Rattle.lanes_adapt.proofs.update_half.Goals as goal
 
 pub loop-i-preserved : goal.loop-i-preserved
 loop-i-preserved c =
-    let re = rw (c.at.ensures, c.at-in-loop-i.ensures) at c.stepped-v.ensures.re in
-    let im = rw (c.at.ensures, c.at-in-loop-i.ensures) at c.stepped-v.ensures.im in
+    let re = rw (c.at.ensures, c.at-in-loop-i.ensures) at c.weight-v.ensures.re in
+    let im = rw (c.at.ensures, c.at-in-loop-i.ensures) at c.weight-v.ensures.im in
     rw (c.put.ensures.re, c.put.ensures.im) (half_more _ _ _ _ _ _ _ _ _ _ _ _ _ _ _ _ c.loop-i.invariant (omega (arith, c.args.p.within, c.put.ensures.long.0)) (omega (arith, c.args.p.within, c.put.ensures.long.1)) re im c.apart-bad.ensures)

@@ -1,0 +1,2 @@
+-- Below: what is left of a number below a limit.
+pub mod Below
