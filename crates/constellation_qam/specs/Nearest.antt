@@ -3,6 +3,7 @@ use Rattle.std.specs.Prelude.{ℕ, ◌-◌, List, slice_index_or, Float}
 use Rattle.std.specs.Float.{nan}
 use Rattle.definition.specs.Floats.{◌+f◌, ◌*f◌}
 use Rattle.definition.specs.Points.{held_to}
+use Rattle.constellation_qam.specs.declared.grid.Grid.{Grid}
 
 -- the index among m levels of the one nearest to v, which lies at v * scale + half on the grid of whole numbers: its floor, held to 0 .. m - 1
 abbrev pub nearest : ℕ → Float → Float → Float → ℕ
@@ -11,3 +12,7 @@ nearest m scale half v = held_to (m - 1) (v *f scale +f half)
 -- that level
 abbrev pub level_near : ℕ → List Float → Float → Float → Float → Float
 level_near m levels scale half v = slice_index_or levels (nearest m scale half v) nan
+
+-- that level of a grid
+abbrev pub level_on : (m : ℕ) → Grid m → Float → Float
+level_on m g v = level_near m g.levels g.scale g.half v

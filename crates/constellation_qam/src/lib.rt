@@ -1,60 +1,19 @@
 // The square constellations: levels, the nearest level of a part, the nearest point.
 #![tactic(auto)]
 
+mod grid;
+
 ghost use Rattle.std.specs.Prelude.{◌≡◌, ◌-◌, ◌<◌, ◌≤◌, cond, pos, count_by};
 ghost use Rattle.std.specs.List.{range_with_len};
 ghost use Rattle.std.specs.Float.{binary32};
 ghost use Rattle.std.specs.Float.Ieee.{le, of_int};
 ghost use Rattle.definition.specs.Floats.{◌+f◌, ◌*f◌, complex};
 ghost use Rattle.definition.specs.Points.{level_of, qam_point};
-ghost use Rattle.constellation_qam.specs.Nearest.{nearest, level_near};
+ghost use Rattle.constellation_qam.specs.Nearest.{nearest, level_on};
 
+use crate::grid::{Grid, QAM16, QAM64};
+pub use crate::grid::{QAM16_LEVELS, QAM64_LEVELS};
 use types::{C32, Qam};
-
-// The levels of 16-QAM, (2 i - 3) / sqrt(10), from the lowest up.
-pub const QAM16_LEVELS: [f32; 4] = [-0.94868332, -0.31622776, 0.31622776, 0.94868332];
-
-// The levels of 64-QAM, (2 i - 7) / sqrt(42).
-pub const QAM64_LEVELS: [f32; 8] = [
-    -1.0801234,
-    -0.77151674,
-    -0.46291006,
-    -0.15430336,
-    0.15430336,
-    0.46291006,
-    0.77151674,
-    1.0801234,
-];
-
-// M levels a part. A part v lies at v * scale + half on the grid of whole numbers: scale is the root of the mean power over 2, half is M / 2.
-#[derive(Clone, Copy)]
-struct Grid<const M: usize> {
-    levels: [f32; M],
-    scale: f32,
-    half: f32,
-    ghost small: { (0 < M) × (M ≤ 8) },
-}
-
-// scale is sqrt(10) / 2.
-const QAM16: Grid<4> = Grid {
-    levels: QAM16_LEVELS,
-    scale: 1.5811388,
-    half: 2.0,
-};
-
-// scale is sqrt(42) / 2.
-const QAM64: Grid<8> = Grid {
-    levels: QAM64_LEVELS,
-    scale: 3.2403703,
-    half: 4.0,
-};
-
-// A select: by an `if` in the loop there is a branch.
-fn pick(b: bool, yes: f32, no: f32) -> f32
-    ensures { result ≡ cond b yes no }
-{
-    if b { yes } else { no }
-}
 
 impl<const M: usize> Grid<M> {
     // The place of a part v on the grid.
@@ -83,12 +42,12 @@ impl<const M: usize> Grid<M> {
 
     // The level nearest to a part v, by comparisons that select it. Not `self.levels[self.index(v)]`: a sample of 16-QAM took 96 ns so, and 92 by this loop.
     fn level(&self, v: f32) -> f32
-        ensures { result ≡ level_near M self.now.levels self.now.scale self.now.half v }
+        ensures { result ≡ level_on M self.now v }
     {
         let t = self.place(v);
         let mut r = self.levels[0];
         for k in 1..M {
-            r = pick(t >= k as f32, self.levels[k], r);
+            r = if t >= k as f32 { self.levels[k] } else { r };
         }
         r
     }
@@ -96,8 +55,8 @@ impl<const M: usize> Grid<M> {
     // The point nearest to y, part by part.
     fn point(&self, y: C32) -> C32
         ensures { result ≡ complex
-            (level_near M self.now.levels self.now.scale self.now.half y.re)
-            (level_near M self.now.levels self.now.scale self.now.half y.im) }
+            (level_on M self.now y.re)
+            (level_on M self.now y.im) }
     {
         C32 {
             re: self.level(y.re),
