@@ -31,10 +31,7 @@ pub fn decide(k: EqConstellation, y: C32) -> C32
             re: side(y.re, 1.0),
             im: 0.0,
         },
-        EqConstellation::Qpsk => C32 {
-            re: side(y.re, QPSK_A),
-            im: side(y.im, QPSK_A),
-        },
+        EqConstellation::Qpsk => y.map(|v| side(v, QPSK_A)),
         EqConstellation::Psk8 => costas::octant_point(y),
         EqConstellation::Qam16 => constellation_qam::decide_qam(Qam::Qam16, y),
         EqConstellation::Qam64 => constellation_qam::decide_qam(Qam::Qam64, y),

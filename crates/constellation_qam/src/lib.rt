@@ -52,7 +52,7 @@ impl<const M: usize> Grid<M> {
         r
     }
 
-    // The point nearest to y, part by part.
+    // The point nearest to y, part by part. No `map`: a closure in this generic block would need a contract of its own.
     fn point(&self, y: C32) -> C32
         ensures { result ≡ complex
             (level_on M self.now y.re)

@@ -10,13 +10,13 @@ ghost use Rattle.definition.specs.Calls.{set_answer, with_params, fresh_state, n
 
 use types::{EqParams, EqualizeState, Equalized, Error};
 
-// The start weights and a window of zeros, with m feedback taps.
-fn start_over(w: &mut [f32], h: &mut [f32], m: usize)
-    requires { (length w.old ≡ 2 * (length w.old / 2)) × ((length h.old ≡ 2 * (length w.old / 2)) × (1 ≤ length w.old / 2 - m)) }
-    ensures { (w.new ≡ start_weights (length w.old / 2) ((length w.old / 2 - m) / 2)) × (h.new ≡ zeros (2 * (length w.old / 2))) }
+// The start weights and a window of zeros, with the feedback taps of s.
+fn start_over(w: &mut [f32], h: &mut [f32], s: EqualizeState)
+    requires { (length w.old ≡ 2 * (length w.old / 2)) × ((length h.old ≡ 2 * (length w.old / 2)) × (1 ≤ length w.old / 2 - s.params.feedback_taps)) }
+    ensures { (w.new ≡ start_weights (length w.old / 2) ((length w.old / 2 - s.params.feedback_taps) / 2)) × (h.new ≡ zeros (2 * (length w.old / 2))) }
 {
-    let n = w.len() / 2;
-    record_start::start_weights(w, n, n.saturating_sub(m));
+    let taps = s.taps(w);
+    record_start::start_weights(w, taps);
     h.fill(0.0);
 }
 
@@ -25,8 +25,8 @@ fn start_over(w: &mut [f32], h: &mut [f32], m: usize)
 fn fresh_state(params: EqParams) -> EqualizeState
     ensures { result ≡ fresh_state params }
 {
-    let g = costas::loop_gains(params.phase_bw, costas::PHASE_DAMPING);
-    EqualizeState::fresh(params, g.kp, g.ki)
+    let gains = costas::loop_gains(params.phase_bw, costas::PHASE_DAMPING);
+    EqualizeState::fresh(params, gains)
 }
 
 // A new equalizer: weights and window are set, and the record is returned. Refusals 1 to 7 leave both as they were.
@@ -39,8 +39,9 @@ pub fn new(
     ensures { made result weights.new window.new ≡ new_def params weights.old window.old }
 {
     record_verdict::new_verdict(params, weights.len(), window.len())?;
-    start_over(weights, window, params.feedback_taps);
-    Ok(fresh_state(params))
+    let s = fresh_state(params);
+    start_over(weights, window, s);
+    Ok(s)
 }
 
 // Back to the start, with the settings and gains kept. Refusals 1 and 8.
@@ -51,8 +52,9 @@ pub fn reset(state: EqualizeState, weights: &mut [f32], window: &mut [f32]) -> E
     if let Err(e) = record_verdict::reset_verdict(state, weights, window) {
         return Equalized::refused(state, e);
     }
-    start_over(weights, window, state.params.feedback_taps);
-    Equalized::served(EqualizeState::fresh(state.params, state.kp, state.ki))
+    let s = EqualizeState::fresh(state.params, state.phase_gains());
+    start_over(weights, window, s);
+    Equalized::served(s)
 }
 
 // The record with the settings `params`, in which one step size is mu; or the refusal, where mu is out of range.

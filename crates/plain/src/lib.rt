@@ -74,10 +74,9 @@ fn sample(s: EqualizeState, w: &mut [f32], h: &mut [f32], x: C32) -> Sampled
     requires { accepted_def (equalizer s w.old h.old) ≡ true }
     ensures { did result w.new h.new ≡ sample_def (equalizer s w.old h.old) x }
 {
-    let all = w.len() / 2;
     let taps = Taps {
-        all,
-        forward: all - s.params.feedback_taps,
+        all: w.len() / 2,
+        forward: s.taps(w),
     };
     sample_sized(s, w, h, x, taps)
 }

@@ -55,6 +55,6 @@ pub(crate) fn update_weights(u: Update, w: &mut [f32], x: &[f32], taps: Taps)
     };
     renew(w, x, C32 { re: gr, im: gi }, taps.all);
     if !record_rules::all_finite(w) {
-        record_start::start_weights(w, taps.all, taps.forward);
+        record_start::start_weights(w, taps.forward);
     }
 }

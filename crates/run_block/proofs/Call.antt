@@ -1,9 +1,8 @@
 -- A call: the shape, the caller's slices into the arrays, all runs, and back. Assumes nothing.
-use Prim.Native.Nat.{ℕ, ◌+◌, ◌*◌, ◌/◌, ◌%◌, ◌≤◌}
+use Prim.Native.Nat.{ℕ, ◌+◌, ◌*◌, ◌%◌, ◌≤◌}
 use mathlib.Core.Path.{◌≡◌, sym, ◌∙◌, subst}
 use mathlib.Core.Bool.{true}
 use mathlib.Core.List.{List}
-use native.Mathlib.Omega.{arith}
 use lib.ListN.{length}
 use lib.Dec.{T}
 use lib.Ieee.{Float}
@@ -11,7 +10,6 @@ use lib.Ieee.Bits.{is_true}
 use Rattle.types.specs.declared.EqualizeState.{EqualizeState}
 use Rattle.definition.specs.Slices.{samples_of}
 use Rattle.definition.specs.Packed.{equalizer, Ran}
-use Rattle.definition.specs.Packed as packed
 use Rattle.definition.specs.Rules.{rule_r4, TapCounts as Taps}
 use Rattle.definition.specs.Run.{run_def}
 use Rattle.definition_laws.proofs.Accept.{Accepted, accepted_parts, shape}
@@ -79,7 +77,3 @@ call_is s w h xs ys₀ ms₀ n m g limit a wr wi xr xi sq ys ms r w' h' q f l o 
     let long = asked_long s w h xs ys₀ ms₀ n m q g f in
     let back = t.stored sq (equalizer r z.weights z.window) z.holds (long.0 ∙ sym z.holds.weights.taps) (long.1 ∙ sym z.holds.past.taps) in
     record { left = rw (back.0, back.1) z.ran.left; out = z.ran.out; marks = z.ran.marks }
-
--- ---- `equalize_linear`
-pub feedback_fits_lem : (s : EqualizeState) (w h xs ys : List Float) (ms : List ℕ) → packed.ServedBlock (equalizer s w h) xs ys ms → s.params.feedback_taps ≤ length w / 2
-feedback_fits_lem s w h xs ys ms t = let z = shape (equalizer s w h) (accepted_parts (equalizer s w h) (subst T (sym t.accepted) tt)) in omega (arith, z.sum, z.some)

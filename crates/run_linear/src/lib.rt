@@ -8,7 +8,6 @@ ghost use Rattle.definition.specs.Run.{run_def};
 use types::EqualizeState;
 
 // A block of samples of an accepted record.
-#[tactic(auto, using(run_block::proofs::Call::feedback_fits_lem))]
 pub fn equalize_linear(
     state: EqualizeState,
     weights: &mut [f32],
@@ -22,6 +21,6 @@ pub fn equalize_linear(
         (equalizer result weights.new window.new) output.new marks.new }
 {
     let m = state.params.feedback_taps;
-    let n = weights.len() / 2 - m;
+    let n = state.taps(weights);
     run_block::linear_state(state, weights, window, input, output, marks, n, m)
 }

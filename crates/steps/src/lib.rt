@@ -178,10 +178,7 @@ fn modulus(y: C32, radius: f32) -> C32
     ensures { result ≡ clip_c (godard_error y radius) one32 }
 {
     let f = complex::norm(y) - radius;
-    C32 {
-        re: numeric::clip(y.re * f, CMA_CLIP),
-        im: numeric::clip(y.im * f, CMA_CLIP),
-    }
+    y.map(|v| numeric::clip(v * f, CMA_CLIP))
 }
 
 // The error and the sample to feed back, by the mode.
@@ -206,10 +203,7 @@ fn aim_of(s: EqualizeState, t: CosSin, y: C32, d: C32, e: C32) -> Aim
 fn update_of(live: bool, e: C32, m: f32) -> Update
     ensures { result ≡ update_if live (scaled_c m e) }
 {
-    let g = C32 {
-        re: m * e.re,
-        im: m * e.im,
-    };
+    let g = e.map(|v| m * v);
     if live & numeric::finite_c(g) {
         Update::Step(g.re, g.im)
     } else {
@@ -287,8 +281,5 @@ pub fn weight(w: C32, limit: f32, x: C32, g: C32) -> C32
     ensures im { result.im ≡ lane_im w.im limit x.re x.im g.re g.im }
 {
     let v = w - complex::times_conj(g, x);
-    C32 {
-        re: numeric::flush_below(v.re, limit),
-        im: numeric::flush_below(v.im, limit),
-    }
+    v.map(|p| numeric::flush_below(p, limit))
 }

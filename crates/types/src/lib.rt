@@ -179,6 +179,17 @@ impl Equalized {
 
 impl C32 {
     pub const ZERO: C32 = C32 { re: 0.0, im: 0.0 };
+
+    // Both parts by f.
+    pub fn map<F: Fn(f32) -> f32>(self, f: F) -> C32
+        requires { F.IsAlwaysCallable f }
+        ensures { F.post f self.re result.re × F.post f self.im result.im }
+    {
+        C32 {
+            re: f(self.re),
+            im: f(self.im),
+        }
+    }
 }
 
 impl EqParams {
@@ -224,13 +235,13 @@ impl EqualizeState {
 
     // The record at the start: count 0, mse 1, phase and frequency 0.
     #[tactic(auto, unfolding(crate::specs::Start::start_state))]
-    pub fn fresh(params: EqParams, kp: f32, ki: f32) -> EqualizeState
-        ensures { result ≡ start_state params kp ki }
+    pub fn fresh(params: EqParams, gains: LoopGains) -> EqualizeState
+        ensures { result ≡ start_state params gains.kp gains.ki }
     {
         EqualizeState {
             params,
-            kp,
-            ki,
+            kp: gains.kp,
+            ki: gains.ki,
             mode: start_mode(params.cma_symbols),
             count: 0,
             mse: EqualizeState::MSE_START,

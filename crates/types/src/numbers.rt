@@ -51,7 +51,7 @@ impl From<Error> for u32 {
     }
 }
 
-// The bytes that a caller reads.
+// The bytes that a caller reads. Here and below a match and no `as`: the constants say the numbers, for both ways, and the cases would say them again.
 impl Mark {
     pub const HEARD: u8 = 0;
 
