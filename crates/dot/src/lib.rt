@@ -65,19 +65,9 @@ fn product_at<P: Part>(t: Taps, i: usize) -> f32
     P::product(complex::at(t.x, i), complex::at(t.w, i))
 }
 
-// Adds the products i .. i + 7 to the partial sums. No function over a closure for this loop and the like in lanes_filter and lanes_prepare: of two lines
-// each, and by `F.pre` and `F.post` its contract would be longer than the three; nor a trait with a ghost term, of which each would be a struct with an `impl`.
-fn block<P: Part>(a: &mut [f32; 8], t: Taps, i: usize)
-    requires { i + 8 ≤ t.n }
-    ensures { Added (product_at P.product t.entry.x.now t.entry.w.now) i 8 a.old a.new }
-{
-    for (k, s) in a.iter_mut().enumerate() {
-        *s += product_at::<P>(t, i + k);
-    }
-}
-
-// Adds the products i .. i + m - 1, at most eight, in eight turns with a test in each, which unrolls: the partial sums stay in registers.
-fn rest<P: Part>(a: &mut [f32; 8], t: Taps, i: usize, m: usize)
+// Adds the products i .. i + m - 1, at most eight, in eight turns with a test in each: for a block of eight there is none in what is built. No function over a
+// closure for this loop and the like in lanes_filter and lanes_prepare: in a generic function a closure needs a contract of its own, so that each would be longer.
+fn add<P: Part>(a: &mut [f32; 8], t: Taps, i: usize, m: usize)
     requires { (m ≤ 8) × (i + m ≤ t.n) }
     ensures { Added (product_at P.product t.entry.x.now t.entry.w.now) i m a.old a.new }
 {
@@ -88,15 +78,15 @@ fn rest<P: Part>(a: &mut [f32; 8], t: Taps, i: usize, m: usize)
     }
 }
 
-// The part of the sum, by blocks of eight, counted: a block is a place in both slices.
+// The part of the sum, by blocks of eight, counted: cut by `as_chunks` and put side by side by `zip`, both slices would have four names more.
 fn sum<P: Part>(t: Taps) -> f32
     ensures { result ≡ sum8 (product_at P.product t.entry.x.now t.entry.w.now) t.entry.n }
 {
     let mut a = [0.0f32; 8];
     for b in 0..t.n / 8 {
-        block::<P>(&mut a, t, 8 * b);
+        add::<P>(&mut a, t, 8 * b, 8);
     }
-    rest::<P>(&mut a, t, 8 * (t.n / 8), t.n % 8);
+    add::<P>(&mut a, t, 8 * (t.n / 8), t.n % 8);
     dot_complex_tree(&a)
 }
 

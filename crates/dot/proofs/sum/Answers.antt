@@ -8,7 +8,7 @@ pub loop-b-init : goal.loop-b-init
 loop-b-init g c = lanes_none _
 
 pub loop-b-preserved : goal.loop-b-preserved
-loop-b-preserved g c = lanes_block _ _ c.loop-b.invariant c.block.ensures
+loop-b-preserved g c = lanes_block _ _ c.loop-b.invariant c.add.ensures
 
 pub returns : goal.returns
-returns g c = c.dot_complex_tree.ensures ∙ lanes_rest _ _ _ (omega arith) c.loop-b.invariant c.rest.ensures
+returns g c = c.dot_complex_tree.ensures ∙ lanes_rest _ _ _ (omega arith) c.loop-b.invariant c.add-2.ensures
