@@ -116,10 +116,10 @@ not_tiny (fin s m e) h =
 
 -- ---- `integrate`
 
-pub kept : (t l a : Float) → a ≡ size t → (le a l && le tiny a) ≡ true → t ≡ clip (flush t) l
+pub kept : (t l a : Float) → a ≡ size t → (le tiny a && le a l) ≡ true → t ≡ clip (flush t) l
 unfolding clip flush
 kept t l a e h =
-    let p = and_parts (le a l) (le tiny a) h in
-    let w = within t l (subst (λ (x : Float). le x l ≡ true) e p.0) in
-    let n = not_tiny t (subst (λ (x : Float). le tiny x ≡ true) e p.1) in
+    let p = and_parts (le tiny a) (le a l) h in
+    let w = within t l (subst (λ (x : Float). le x l ≡ true) e p.1) in
+    let n = not_tiny t (subst (λ (x : Float). le tiny x ≡ true) e p.0) in
     rw (n, w.0, w.1)

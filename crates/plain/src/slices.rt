@@ -1,5 +1,6 @@
-// Loops over the weights and the window. `2 * n ≤ length` stands in three contracts: a name for it would be no shorter.
-ghost use Rattle.std.specs.Prelude.{◌≡◌, ◌+◌, ◌*◌, ◌<◌, ◌≤◌, length};
+// Loops over the weights and the window. `shift` and `window_power` take a count and not a part of the slice: so the definition says them, of the whole window,
+// and with the part lent a law would have to put it back into the whole. `2 * n ≤ length` stands in two contracts: a name for it would be no shorter.
+ghost use Rattle.std.specs.Prelude.{◌≡◌, ◌+◌, ◌*◌, ◌/◌, ◌<◌, ◌≤◌, length};
 ghost use Rattle.definition.specs.Floats.{◌+f◌, ◌-f◌, ◌*f◌, flush};
 ghost use Rattle.definition.specs.Slices.{shifted, power as powerDef, updated};
 ghost use Rattle.definition.specs.Sample.{adapted};
@@ -32,13 +33,13 @@ pub(crate) fn window_power(x: &[f32], from: usize, first: f32, n: usize) -> f32
     )
 }
 
-// The first n weights renewed. By their places: of `as_chunks_mut` the library says what the pairs hold at first, and not what the slice holds once they are
+// The weights renewed. By their places: of `as_chunks_mut` the library says what the pairs hold at first, and not what the slice holds once they are
 // written.
-fn renew(w: &mut [f32], x: &[f32], g: C32, n: usize)
-    requires { (2 * n ≤ length w.old) × (2 * n ≤ length x.now) }
-    ensures { w.new ≡ updated n g w.old x.now }
+fn renew(w: &mut [f32], x: &[f32], g: C32)
+    requires { length w.old ≤ length x.now }
+    ensures { w.new ≡ updated (length w.old / 2) g w.old x.now }
 {
-    for i in 0..n {
+    for i in 0..w.len() / 2 {
         let v = steps::weight(complex::at(w, i), numeric::TINY, complex::at(x, i), g);
         complex::put(w, i, v);
     }
@@ -53,7 +54,7 @@ pub(crate) fn update_weights(u: Update, w: &mut [f32], x: &[f32], taps: Taps)
     let Update::Step(gr, gi) = u else {
         return;
     };
-    renew(w, x, C32 { re: gr, im: gi }, taps.all);
+    renew(w, x, C32 { re: gr, im: gi });
     if !record_rules::all_finite(w) {
         record_start::start_weights(w, taps.forward);
     }

@@ -27,7 +27,7 @@ pub fn feedback_fits(m: usize) -> bool
 }
 
 // An odd number from 3 to 63.
-#[tactic(auto, unfolding(definition::specs::Rules::taps_fit), using(crate::proofs::Ranges::in_nats))]
+#[tactic(auto, unfolding(definition::specs::Rules::taps_fit), using(numeric::proofs::Ranges::in_nats))]
 pub fn taps_fit(n: usize) -> bool
     ensures { result ≡ taps_fit n }
 {
@@ -35,7 +35,7 @@ pub fn taps_fit(n: usize) -> bool
 }
 
 // From 0.00001 to 1. The ranges stand here and not in constants: a constant's value may call no function of std, and a range is one.
-#[tactic(auto, unfolding(definition::specs::Rules::mu_fits), using(crate::proofs::Ranges::in_floats))]
+#[tactic(auto, unfolding(definition::specs::Rules::mu_fits), using(numeric::proofs::Ranges::in_floats))]
 pub fn check_mu(mu: f32) -> bool
     ensures { result ≡ mu_fits mu }
 {
@@ -43,7 +43,7 @@ pub fn check_mu(mu: f32) -> bool
 }
 
 // 0 of either sign, or 0.0001 to 0.2.
-#[tactic(auto, unfolding(definition::specs::Rules::bw_fits), using(crate::proofs::Ranges::in_floats))]
+#[tactic(auto, unfolding(definition::specs::Rules::bw_fits), using(numeric::proofs::Ranges::in_floats))]
 pub fn bw_fits(bw: f64) -> bool
     ensures { result ≡ bw_fits bw }
 {
@@ -67,7 +67,7 @@ fn weight_fits(v: f32) -> bool
 }
 
 // +0, or 1e-30 to 0.125 in magnitude.
-#[tactic(auto, unfolding(definition::specs::Rules::freq_fits), using(numeric::proofs::Leaves::sign_abs, crate::proofs::Ranges::in_floats))]
+#[tactic(auto, unfolding(definition::specs::Rules::freq_fits), using(numeric::proofs::Leaves::sign_abs, numeric::proofs::Ranges::in_floats))]
 fn freq_fits(v: f32) -> bool
     ensures { result ≡ freq_fits v }
 {

@@ -1,5 +1,6 @@
 -- `renew` replaces the weights one by one by the definition's new ones.
-use Prim.Native.Nat.{◌+◌, ◌*◌}
+use Prim.Native.Nat.{◌+◌, ◌*◌, ◌/◌}
+use lib.ListN.{length}
 use mathlib.Core.Path.{◌≡◌, ◌∙◌}
 use native.Mathlib.Omega.{arith}
 use Rattle.definition.specs.Slices.{part, new_re, new_im, updated}
@@ -26,5 +27,5 @@ loop-i-preserved c =
 
 pub returns : goal.returns
 unfolding updated
-returns c = let e : c.loop-i.i ≡ c.args.n = omega arith in
+returns c = let e : c.loop-i.i ≡ length c.args.w.now / 2 = omega arith in
     rw e at c.loop-i.invariant.is
