@@ -80,8 +80,8 @@ pub fn reset_verdict(s: EqualizeState, w: &[f32], h: &[f32]) -> Result<(), Error
     ensure(holds, Error::Record)
 }
 
-// Tests 1, 8, 9 and 10 of equalizing, by the lengths of input, output and marks: three numbers, since both callers have three slices and would make a
-// struct of their lengths for this call alone.
+// Tests 1, 8, 9 and 10 of equalizing, by the lengths of input, output and marks: three numbers and no slices, so that any lengths can be asked of, and no
+// struct, which both callers would make for this call alone.
 #[tactic(auto, unfolding(definition::specs::Refusals::first_of, definition::specs::Calls::verdict_def, definition::specs::Calls::equalize_tests))]
 pub fn verdict(
     s: EqualizeState,
