@@ -5,7 +5,7 @@ ghost use Rattle.std.specs.Prelude.{◌≡◌, ◌+◌, ◌*◌, ◌≤◌, leng
 ghost use Rattle.lanes_load.specs.Load.{Joined, Loaded, Moved};
 ghost use Rattle.lanes.specs.Holds.{Limits};
 
-use lanes::{LANES, PLACES, Split, Weights};
+use lanes::{LANES, Split, Weights};
 
 // count complex values of x, from `from` on, into the lanes from `at` on. By an index: one number is a place in x and in both parts of s, and behind a `zip` of `iter_mut` a proof
 // knows no element.
@@ -30,12 +30,14 @@ pub fn joined<const N: usize>(x: &mut [f32], s: &Split<N>, at: usize, from: usiz
     }
 }
 
-// count values from `from` on to the place `to`.
-pub fn moved(x: &mut [f32; PLACES], from: usize, to: usize, count: usize)
-    requires { (from ≤ to) × (to + count ≤ 288) }
-    ensures { Moved from to count x.old x.new }
+// count numbers from `from` on to the place `to`.
+pub fn moved<const N: usize>(s: &mut Split<N>, from: usize, to: usize, count: usize)
+    requires { (from ≤ to) × (to + count ≤ N) }
+    ensures re { Moved from to count s.old.re s.new.re }
+    ensures im { Moved from to count s.old.im s.new.im }
 {
-    x.copy_within(from..from + count, to);
+    s.re.copy_within(from..from + count, to);
+    s.im.copy_within(from..from + count, to);
 }
 
 // The limits of the lanes: TINY for n forward weights, from 0 on, and m feedback weights, `front` behind the first feedback lane on, infinity for padding.
