@@ -2,6 +2,7 @@
 use Rattle.std.specs.Prelude.{ℕ, ◌+◌, ◌/◌, ◌%◌, ◌<◌, ◌≤◌, ◌≡◌, List, Float}
 use Rattle.types.specs.declared.Update.{Update}
 use Rattle.definition.specs.Sample.{adapted}
+use Rattle.lanes.specs.Fed.{back_at}
 use Rattle.lanes.specs.Holds.{Weights, Window, Limits}
 
 -- the facts that a caller has
@@ -14,7 +15,7 @@ pub record Ready (n m : ℕ) (wr wi limit xr xi : List Float) (at lanes bt more 
   pub most : n ≤ 63
   pub most' : m ≤ 63
   pub low : at ≤ 63
-  pub early : bt + n % 8 ≡ at + 153
+  pub early : bt + n % 8 ≡ back_at at
   pub wide : n ≤ lanes
   pub fit : lanes ≤ 72
   pub fit' : more ≤ 72

@@ -8,6 +8,7 @@ use Rattle.types.specs.declared.C32.{C32}
 use Rattle.definition.specs.Sample.{Equalizer, feedback, sanitized}
 use Rattle.definition.specs.Slices.{re_at, im_at}
 use Rattle.lanes.specs.Arrays.{Arrays, Long}
+use Rattle.lanes.specs.Fed.{back_at}
 
 -- the complex numbers base .. base + count of x stand in the lanes from `from` on
 pub record Lies (re im : List Float) (from : ℕ) (x : List Float) (base count : ℕ) : Type 0 where
@@ -42,7 +43,7 @@ pub record Weights (n m : ℕ) (wr wi w : List Float) : Type 0 where
 -- the window h, from the place `at` on, and its feedback part from 144 + at + 9 on
 pub record Window (n m at : ℕ) (xr xi h : List Float) : Type 0 where
   pub forth : Lies xr xi at h 0 n
-  pub back : Lies xr xi (at + 153) h n m
+  pub back : Lies xr xi (back_at at) h n m
   pub calm : Calm xr xi 288
   pub taps : length h ≡ 2 * (n + m)
 

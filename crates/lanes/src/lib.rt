@@ -2,10 +2,11 @@
 
 #![tactic(auto)]
 
-ghost use Rattle.std.specs.Prelude.{◌≡◌, ◌+◌, ◌-◌, ◌<◌, ◌≤◌, length, get_or, set};
+ghost use Rattle.std.specs.Prelude.{◌≡◌, ◌+◌, ◌<◌, ◌≤◌, length, get_or, set};
 ghost use Rattle.std.specs.Float.{nan};
 ghost use Rattle.definition.specs.Floats.{complex};
 ghost use Rattle.lanes.specs.Fits.{Fits};
+ghost use Rattle.lanes.specs.Fed.{fed_at};
 
 use types::C32;
 
@@ -55,7 +56,7 @@ fn beside(at: usize, front: usize, lanes: usize, more: usize) -> Halves
     requires low { (at ≤ 63) × (front < 8) }
     requires fits { (lanes ≤ 72) × (more ≤ 72) }
     ensures forth { (result.forth.at ≡ at) × (result.forth.lanes ≡ lanes) }
-    ensures fed { (result.fed.at ≡ at + 153 - front) × (result.fed.lanes ≡ more) }
+    ensures fed { (result.fed.at ≡ fed_at at front) × (result.fed.lanes ≡ more) }
 {
     Halves {
         forth: Half { at, from: 0, lanes },
@@ -72,7 +73,7 @@ impl Shape {
     pub fn sums(self, at: usize) -> Halves
         requires { at ≤ 63 }
         ensures forth { (result.forth.at ≡ at) × (result.forth.lanes ≡ self.lanes) }
-        ensures fed { (result.fed.at ≡ at + 153 - self.front) × (result.fed.lanes ≡ self.more) }
+        ensures fed { (result.fed.at ≡ fed_at at self.front) × (result.fed.lanes ≡ self.more) }
     {
         beside(at, self.front, self.lanes, self.more)
     }
@@ -81,7 +82,7 @@ impl Shape {
     pub fn steps(self, at: usize) -> Halves
         requires { at ≤ 63 }
         ensures forth { (result.forth.at ≡ at) × (result.forth.lanes ≡ self.quads) }
-        ensures fed { (result.fed.at ≡ at + 153 - self.front) × (result.fed.lanes ≡ self.mquads) }
+        ensures fed { (result.fed.at ≡ fed_at at self.front) × (result.fed.lanes ≡ self.mquads) }
     {
         beside(at, self.front, self.quads, self.mquads)
     }

@@ -3,6 +3,7 @@ use Rattle.std.specs.Prelude.{ℕ, ◌+◌, ◌%◌, ◌≡◌, List, Float}
 use Rattle.types.specs.declared.C32.{C32}
 use Rattle.definition.specs.Slices.{filter_sum, power}
 use Rattle.lanes.specs.Arrays.{Arrays}
+use Rattle.lanes.specs.Fed.{back_at}
 use Rattle.lanes.specs.Holds.{Weights, Window, Squares, LaneCounts}
 
 -- before: the arrays hold the weights w and the window h at `at`, and the power of the forward taps is known
@@ -11,7 +12,7 @@ pub record Seen (n m lanes more front quads mquads at : ℕ) (a : Arrays) (forwa
   pub front_is : front ≡ n % 8
   pub weights : Weights n m a.wr a.wi w
   pub window : Window n m at a.xr a.xi h
-  pub squares : Squares a.q (at + 153) h n m
+  pub squares : Squares a.q (back_at at) h n m
   pub power_is : forward ≡ power h n
 
 pub record Measures (m lanes more front at : ℕ) (a : Arrays) (forward : Float) (y : C32) (all : Float) : Type 0 where

@@ -1,5 +1,5 @@
 -- One sample on the arrays, in the definition's words. n forward taps; `Shape` has the feedback taps and the lanes.
-use Rattle.std.specs.Prelude.{ℕ, ◌+◌, ◌-◌, ◌/◌, ◌%◌, ◌<◌, ◌≡◌, true, cond, List, get_or, eqb, Float}
+use Rattle.std.specs.Prelude.{ℕ, ◌+◌, ◌/◌, ◌%◌, ◌<◌, ◌≡◌, true, cond, List, get_or, eqb, Float}
 use Rattle.std.specs.Float.{nan}
 use Rattle.types.specs.declared.C32.{C32}
 use Rattle.types.specs.declared.EqualizeState.{EqualizeState}
@@ -10,6 +10,7 @@ use Rattle.definition.specs.Sample.{Equalizer, mu_of, step_size, adapted, step1,
 use Rattle.definition.specs.Sample as sample
 use Rattle.definition.specs.Rules.{accepted_def, rule_r4}
 use Rattle.lanes.specs.Arrays.{Arrays}
+use Rattle.lanes.specs.Fed.{fed_at}
 use Rattle.lanes.specs.Holds.{Holds, Put, Limits, LaneCounts}
 use Rattle.lanes.specs.Adapts.{Adapts}
 use Rattle.steps.specs.declared.Track.{Track}
@@ -59,7 +60,7 @@ StageIs s n m x w h u r = stage s r (adapted u (n + m) n w (step1 n x h)) ≡ st
 
 pub record Takes (s : EqualizeState) (g : Shape) (at : ℕ) (x : C32) (forward ahead : Float) (limit : List Float) (a : Arrays) (wr' wi' : List Float) (r : Stage) : Type 0 where
   pub update : Update
-  pub adapts : Adapts update a.wr a.wi limit a.xr a.xi at g.quads (at + 153 - g.front) g.mquads g.centre wr' wi'
+  pub adapts : Adapts update a.wr a.wi limit a.xr a.xi at g.quads (fed_at at g.front) g.mquads g.centre wr' wi'
   pub stage_is : (n : ℕ) (w h : List Float) → Before s g n at x forward ahead limit a w h → StageIs s n g.m x w h update r
 
 -- after step 8: weights and window, what the sample gave, and what the arrays hold now

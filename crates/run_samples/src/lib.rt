@@ -1,9 +1,10 @@
 // The samples of a run on the arrays: w the weights, h the window, lent apart, since the step writes w and reads h. The feedback's lanes and places are the upper halves.
 #![tactic(auto)]
 
-ghost use Rattle.std.specs.Prelude.{◌≡◌, true, ◌+◌, ◌-◌, ◌*◌, ◌<◌, ◌≤◌, length};
+ghost use Rattle.std.specs.Prelude.{◌≡◌, true, ◌≤◌, length};
 ghost use Rattle.definition.specs.Rules.{rule_r4};
 ghost use Rattle.lanes.specs.Arrays.{arrays_of};
+ghost use Rattle.lanes.specs.Fed.{fed_at};
 ghost use Rattle.lanes.specs.Adapts.{Adapts};
 ghost use Rattle.steps.specs.Step.{step_of, heard_of};
 ghost use Rattle.run_samples.specs.Sample.{size_of, Takes, Samples};
@@ -51,7 +52,7 @@ fn hear(s: EqualizeState, call: &Call, e: Entry, f: Measured, w: &mut Weights, h
     ensures value { result ≡ heard_of (step_of s f.y e.forward (size_of s call.now.shape.m e.ahead f.power)) }
     ensures adapts { let g = call.now.shape in
         Adapts (step_of s f.y e.forward (size_of s g.m e.ahead f.power)).update w.old.re w.old.im call.now.limit h.now.values.re h.now.values.im e.at g.quads
-        (e.at + 153 - g.front) g.mquads g.centre w.new.re w.new.im }
+        (fed_at e.at g.front) g.mquads g.centre w.new.re w.new.im }
 {
     let g = call.shape;
     let size = step_size(s, g.m, e.ahead, f.power);
