@@ -12,7 +12,7 @@ pub use capi_state::{
 use types::{EqualizeState, Equalized};
 
 // A block of samples by one of the two calls; a record with an unknown number is refused, with 1 where a slice is odd, else 8.
-#[tactic(auto, using(crate::proofs::Laws::block_unknown))]
+#[tactic(auto, unfolding(crate::specs::Raw::equalize_raw), using(crate::proofs::Laws::block_known, capi_numbers::proofs::Facts::record_err))]
 fn call<E>(
     raw: EqRecord,
     weights: &mut [f32],

@@ -23,7 +23,7 @@ fn unknown(record: EqRecord, weights: &[f32], window: &[f32]) -> EqReply
 }
 
 // A new equalizer: weights and window are set. Refusals 1 to 8; the record is then all zeros.
-#[tactic(auto, using(crate::proofs::Laws::new_unknown, crate::proofs::Laws::new_known))]
+#[tactic(auto, unfolding(crate::specs::Raw::new_raw), using(capi_numbers::proofs::Facts::settings_ok, capi_numbers::proofs::Facts::settings_err))]
 pub fn new(settings: EqSettings, weights: &mut [f32], window: &mut [f32]) -> EqReply
     ensures { filter result weights.new window.new ≡ new_raw settings weights.old window.old }
 {
@@ -34,7 +34,7 @@ pub fn new(settings: EqSettings, weights: &mut [f32], window: &mut [f32]) -> EqR
 }
 
 // Back to the start, with the settings and gains kept. Refusals 1 and 8.
-#[tactic(auto, using(crate::proofs::Laws::reset_unknown, crate::proofs::Laws::reset_known))]
+#[tactic(auto, unfolding(crate::specs::Raw::reset_raw), using(crate::proofs::Laws::reset_known, capi_numbers::proofs::Facts::record_err))]
 pub fn reset(raw: EqRecord, weights: &mut [f32], window: &mut [f32]) -> EqReply
     ensures { filter result weights.new window.new ≡ reset_raw raw weights.old window.old }
 {
@@ -45,7 +45,7 @@ pub fn reset(raw: EqRecord, weights: &mut [f32], window: &mut [f32]) -> EqReply
 }
 
 // The reply of a setter to the numbers of a record; 8 where one is unknown.
-#[tactic(auto, using(crate::proofs::Laws::set_unknown))]
+#[tactic(auto, using(capi_numbers::proofs::Facts::record_ok, crate::proofs::Laws::set_unknown))]
 fn set<F: FnOnce(EqualizeState) -> Equalized>(raw: EqRecord, setter: F) -> EqReply
     requires { F.IsAlwaysCallable setter }
     ensures { (a : SetAnswer) → ((e : _) → F.post setter (record_in raw) e → settled e ≡ a)

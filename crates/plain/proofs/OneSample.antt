@@ -1,5 +1,5 @@
 -- One sample: the pieces put together. Assumes nothing.
-use Prim.Native.Nat.{ℕ, ◌-◌, ◌*◌, ◌/◌, min}
+use Prim.Native.Nat.{ℕ, ◌-◌, ◌*◌, ◌/◌, ◌≤◌, min}
 use mathlib.Core.Path.{◌≡◌, refl, sym, ◌∙◌, ap, subst}
 use mathlib.Core.Bool.{Bool, true, false}
 use mathlib.Core.List.{List, ◌++◌}
@@ -19,7 +19,7 @@ use Rattle.definition.specs.Phase.{cos_sin}
 use Rattle.definition.specs.Packed.{equalizer}
 use Rattle.definition.specs.Sample.{sanitized, step1, step2, mu_of, step_size, update_of, adapted, tracked, hear, heard_as, step3, fed_in, step8, sample_def}
 use Rattle.definition.specs.Sample as sample
-use Rattle.definition.specs.Rules.{rule_r4, accepted_def, TapCounts}
+use Rattle.definition.specs.Rules.{rule_r4, accepted_def}
 use Rattle.definition_laws.proofs.Accept.{Accepted, accepted_parts, shape}
 use Rattle.plain.specs.declared.counts.Taps.{Taps}
 use Rattle.plain.specs.Taps.{Beside}
@@ -87,8 +87,9 @@ module _ (s : EqualizeState) (w h : List Float) (t : accepted_def (equalizer s w
   accepted : Accepted (equalizer s w h)
   accepted = accepted_parts (equalizer s w h) (subst T (sym t) tt)
 
-  pub accepted-taps : TapCounts (equalizer s w h)
-  accepted-taps = shape (equalizer s w h) accepted
+  pub accepted_taps : let n = length w / 2 in let m = s.params.feedback_taps in
+      (m ≤ n) × ((3 ≤ n - m) × ((n - m ≤ 63) × ((m ≤ 63) × ((length w ≡ 2 * n) × (length h ≡ 2 * n)))))
+  accepted_taps = let t = shape (equalizer s w h) accepted in (omega (arith, t.sum, t.some), (t.some, (t.most, (t.back, (t.weights, t.window)))))
 
-  pub accepted-r4 : rule_r4 s ≡ true
-  accepted-r4 = is_true (rule_r4 s) accepted.r4
+  pub accepted_r4 : rule_r4 s ≡ true
+  accepted_r4 = is_true (rule_r4 s) accepted.r4

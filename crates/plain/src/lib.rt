@@ -70,6 +70,7 @@ fn sample_sized(s: EqualizeState, w: &mut [f32], h: &mut [f32], x: C32, taps: Ta
 }
 
 // One sample of an accepted record.
+#[tactic(auto, using(crate::proofs::OneSample::accepted_taps, crate::proofs::OneSample::accepted_r4))]
 fn sample(s: EqualizeState, w: &mut [f32], h: &mut [f32], x: C32) -> Sampled
     requires { accepted_def (equalizer s w.old h.old) ≡ true }
     ensures { did result w.new h.new ≡ sample_def (equalizer s w.old h.old) x }
