@@ -1,7 +1,7 @@
 // A stream of samples, of any length, by calls of at most 4,096. What the calls give for what was read at once is written at once.
 #![tactic(auto)]
 
-ghost use Rattle.std.specs.Prelude.{◌≡◌, ◌<◌, ◌≤◌, is_ok, length};
+ghost use Rattle.std.specs.Prelude.{◌≡◌, ◌*◌, ◌<◌, ◌≤◌, is_ok, length};
 ghost use Rattle.equalizer_stream.specs.declared.TheConstants.{MOST};
 
 pub use cf32_block::Path;
@@ -10,6 +10,7 @@ use program::text::Page;
 use std::fmt::Write as _;
 use std::io;
 use std::io::{Read, Write};
+use std::ops::Range;
 use types::{EqualizeState, Error, Mark};
 
 // The most samples that are read at once, and that a call takes; their floats, and their bytes.
@@ -38,7 +39,8 @@ impl Ways {
         }
     }
 
-    // The samples that are read at once: of an input at hand as many whole blocks as there is room for.
+    // The samples that are read at once: a block; of an input at hand as many whole blocks as there is room for, since a block cuts the calls and not the
+    // writing. By a bool, whose two cases differ in this number alone.
     fn at_once(self, at_hand: bool) -> Span {
         let block = self.block();
         let to = if at_hand { MOST - MOST % block } else { block };
@@ -211,6 +213,27 @@ struct Span {
     ghost within: { to ≤ MOST },
 }
 
+impl Span {
+    // Where the marks of the samples stand in a room, their floats, and their bytes.
+    fn marks(self) -> Range<usize>
+        ensures { (result.start ≡ self.at) × (result.end ≡ self.to) }
+    {
+        self.at..self.to
+    }
+
+    fn floats(self) -> Range<usize>
+        ensures { (result.start ≡ 2 * self.at) × (result.end ≡ 2 * self.to) }
+    {
+        2 * self.at..2 * self.to
+    }
+
+    fn bytes(self) -> Range<usize>
+        ensures { (result.start ≡ 8 * self.at) × (result.end ≡ 8 * self.to) }
+    {
+        8 * self.at..8 * self.to
+    }
+}
+
 // The samples that are read at once, as bytes and as floats, and what the calls gave: symbols, as floats and as bytes, and marks.
 #[derive(Drop)]
 struct Room {
@@ -231,7 +254,6 @@ impl Room {
         window: &mut [f32],
         span: Span,
     ) -> Result<EqualizeState, Error> {
-        let Span { at, to } = span;
         let Room {
             raw,
             x,
@@ -244,11 +266,11 @@ impl Room {
             state,
             weights,
             window,
-            &raw[8 * at..8 * to],
-            &mut x[2 * at..2 * to],
-            &mut y[2 * at..2 * to],
-            &mut out[8 * at..8 * to],
-            &mut marks[at..to],
+            &raw[span.bytes()],
+            &mut x[span.floats()],
+            &mut y[span.floats()],
+            &mut out[span.bytes()],
+            &mut marks[span.marks()],
         );
         e.outcome?;
         Ok(e.state)
@@ -256,16 +278,16 @@ impl Room {
 
     // The symbols.
     fn symbols(&self, span: Span) -> &[f32] {
-        &self.y[2 * span.at..2 * span.to]
+        &self.y[span.floats()]
     }
 
     // Their bytes.
     fn bytes(&self, span: Span) -> &[u8] {
-        &self.out[8 * span.at..8 * span.to]
+        &self.out[span.bytes()]
     }
 
     fn marks(&self, span: Span) -> &[u8] {
-        &self.marks[span.at..span.to]
+        &self.marks[span.marks()]
     }
 }
 
@@ -347,12 +369,11 @@ impl Stream<'_> {
 
     // Reads the samples wanted, as far as they come, equalizes and writes; whether there may be more. What could not be written does not count.
     fn turn(&mut self, room: &mut Room, want: Span) -> Result<bool, Ending> {
-        let Span { at, to } = want;
-        let Filled { bytes, more } = fill(self.files.input, &mut room.raw[8 * at..8 * to]);
+        let Filled { bytes, more } = fill(self.files.input, &mut room.raw[want.bytes()]);
         let before = self.progress;
         let read = Span {
-            at,
-            to: at + bytes / 8,
+            at: want.at,
+            to: want.at + bytes / 8,
         };
         let served = self.calls(room, read);
         if let Err(e) = self.deliver(room, served.span) {
