@@ -59,6 +59,11 @@ enum Kind {
     Alone(Flag),
 }
 
+// What several options take, in words.
+const OUTPUT: &[u8] = b"the name of a file, or - for standard output";
+
+const STEP_SIZE: &[u8] = b"a number from 0.00001 to 1, of at most 15 digits";
+
 // The option of a name.
 fn named(name: &[u8]) -> Option<Kind> {
     Some(match name {
@@ -66,26 +71,11 @@ fn named(name: &[u8]) -> Option<Kind> {
             Setting::Input,
             b"the name of a file, or - for standard input",
         ),
-        b"--out" => Kind::Valued(
-            Setting::Output,
-            b"the name of a file, or - for standard output",
-        ),
-        b"--marks" => Kind::Valued(
-            Setting::Marks,
-            b"the name of a file, or - for standard output",
-        ),
-        b"--curve" => Kind::Valued(
-            Setting::Curve,
-            b"the name of a file, or - for standard output",
-        ),
-        b"--mu-cma" => Kind::Valued(
-            Setting::MuCma,
-            b"a number from 0.00001 to 1, of at most 15 digits",
-        ),
-        b"--mu-dd" => Kind::Valued(
-            Setting::MuDd,
-            b"a number from 0.00001 to 1, of at most 15 digits",
-        ),
+        b"--out" => Kind::Valued(Setting::Output, OUTPUT),
+        b"--marks" => Kind::Valued(Setting::Marks, OUTPUT),
+        b"--curve" => Kind::Valued(Setting::Curve, OUTPUT),
+        b"--mu-cma" => Kind::Valued(Setting::MuCma, STEP_SIZE),
+        b"--mu-dd" => Kind::Valued(Setting::MuDd, STEP_SIZE),
         b"--bandwidth" => Kind::Valued(
             Setting::Bandwidth,
             b"0, or a number from 0.0001 to 0.2, of at most 15 digits",
@@ -126,21 +116,28 @@ fn narrow_of(t: &[u8]) -> Option<f32> {
 // Up to so many taps of each kind are handed to `new`, which says which it takes.
 pub(crate) const MOST_TAPS: usize = 999;
 
+// A whole number up to `most`, of a type that has it.
+fn whole_of<T: TryFrom<u64>>(t: &[u8], most: u64) -> Option<T>
+where
+    T::Error: Drop,
+{
+    T::try_from(numbers::whole_of(t, most)?).ok()
+}
+
 fn taps_of(t: &[u8]) -> Option<usize> {
-    usize::try_from(numbers::whole_of(t, MOST_TAPS as u64)?).ok()
+    whole_of(t, MOST_TAPS as u64)
 }
 
 // `never` is the count that is not reached.
 fn symbols_of(t: &[u8]) -> Option<u32> {
     match t {
         b"never" => Some(EqParams::NEVER_SWITCH),
-        _ => u32::try_from(numbers::whole_of(t, u64::from(EqParams::NEVER_SWITCH) - 1)?).ok(),
+        _ => whole_of(t, u64::from(EqParams::NEVER_SWITCH) - 1),
     }
 }
 
 fn block_of(t: &[u8]) -> Option<usize> {
-    let n = usize::try_from(numbers::whole_of(t, equalizer_stream::MOST as u64)?).ok()?;
-    (n > 0).then_some(n)
+    whole_of(t, equalizer_stream::MOST as u64).filter(|n| *n > 0)
 }
 
 // The Rust's settings, and 11 taps.
