@@ -3,30 +3,25 @@
 // record, taps n, samples k1 and k2 of the calls, n weights, n window values, k1 + k2 samples;
 // k1 + k2 symbols, their marks, record, n weights, n window values.
 ghost use Rattle.std.specs.Prelude.{◌≡◌, ◌+◌, ◌*◌, ◌≤◌, length};
-ghost use Rattle.replay.specs.declared.words.TheConstants.{MOST_SAMPLES, MOST_TAPS};
+ghost use Rattle.replay.specs.declared.words.TheConstants.{MOST_SAMPLES};
 
-use crate::records;
-use crate::records::{Left, Record};
-use crate::words::{FLOATS, MOST_SAMPLES, MOST_TAPS, floats, same_floats};
+use crate::records::Kept;
+use crate::words::{FLOATS, MOST_SAMPLES, floats, same_floats};
 use types::{EqualizeState, Equalized};
 
 // The words of a line. The first call takes k1 of k samples.
 #[derive(Clone, Copy)]
 struct Case<'a> {
-    record: &'a Record,
+    start: Kept<'a>,
     k1: usize,
     k: usize,
-    weights: &'a [u64],
-    window: &'a [u64],
     samples: &'a [u64],
     symbols: &'a [u64],
     marks: &'a [u64],
-    left: Left<'a>,
+    left: Kept<'a>,
     ghost first: { k1 ≤ k },
     ghost all: { k ≤ MOST_SAMPLES },
     ghost samples_len: { length samples.now ≡ 2 * k },
-    ghost weights_len: { length weights.now ≤ 2 * MOST_TAPS },
-    ghost window_len: { length window.now ≤ 2 * MOST_TAPS },
 }
 
 impl Case<'_> {
@@ -34,27 +29,18 @@ impl Case<'_> {
         let (record, w) = w.split_first_chunk()?;
         let (sizes, mut w) = w.split_first_chunk::<3>()?;
         let [n, k1, k2] = sizes.map(|size| size as usize);
-        if n > MOST_TAPS || k1 > MOST_SAMPLES || k2 > MOST_SAMPLES - k1 {
+        if k1 > MOST_SAMPLES || k2 > MOST_SAMPLES - k1 {
             return None;
         }
-        let parts = 2 * n;
         let k = k1 + k2;
-        let weights = w.split_off(..parts)?;
-        let window = w.split_off(..parts)?;
-        let samples = w.split_off(..2 * k)?;
-        let symbols = w.split_off(..2 * k)?;
-        let marks = w.split_off(..k.div_ceil(8))?;
-        let left = Left::of(w, parts, parts)?;
         Some(Case {
-            record,
+            start: Kept::of(record, &mut w, n, n)?,
             k1,
             k,
-            weights,
-            window,
-            samples,
-            symbols,
-            marks,
-            left,
+            samples: w.split_off(..2 * k)?,
+            symbols: w.split_off(..2 * k)?,
+            marks: w.split_off(..k.div_ceil(8))?,
+            left: Kept::last(w, n, n)?,
         })
     }
 }
@@ -82,40 +68,28 @@ where
     requires { E.IsAlwaysCallable equalize }
 {
     let Case { k1, k, .. } = case;
-    let mut weights = floats(case.weights);
-    let mut window = floats(case.window);
+    let mut weights = case.start.weights();
+    let mut window = case.start.window();
     let input = floats(case.samples);
     let mut output = [f32::NAN; FLOATS];
     let mut marks = [255u8; MOST_SAMPLES];
-    let first = equalize(
-        start,
-        weights.as_mut_slice(),
-        window.as_mut_slice(),
-        &input.as_slice()[..2 * k1],
-        &mut output[..2 * k1],
-        &mut marks[..k1],
-    );
-    let last = equalize(
-        first.state,
-        weights.as_mut_slice(),
-        window.as_mut_slice(),
-        &input.as_slice()[2 * k1..],
-        &mut output[2 * k1..2 * k],
-        &mut marks[k1..k],
-    );
+    let (x1, x2) = input.as_slice().split_at(2 * k1);
+    let (y1, y2) = output[..2 * k].split_at_mut(2 * k1);
+    let (m1, m2) = marks[..k].split_at_mut(k1);
+    let (w, h) = (weights.as_mut_slice(), window.as_mut_slice());
+    let first = equalize(start, w, h, x1, y1, m1);
+    let last = equalize(first.state, w, h, x2, y2, m2);
     first.outcome.is_ok()
         & last.outcome.is_ok()
         & same_floats(&output[..2 * k], case.symbols)
         & same_marks(&marks[..k], case.marks)
-        & case
-            .left
-            .is(last.state, weights.as_slice(), window.as_slice())
+        & case.left.is(last.state, w, h)
 }
 
 // By the plain path, and by whichever is quickest.
 pub(crate) fn agrees(w: &[u64]) -> Option<bool> {
     let case = Case::of(w)?;
-    let Some(start) = records::record_of(case.record) else {
+    let Some(start) = case.start.state() else {
         return Some(false);
     };
     let plain = replayed(case, start, equalize::reference::equalize);

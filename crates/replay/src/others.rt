@@ -2,13 +2,8 @@
 // record, number of the operation, its step size or frequency, taps n of the weights and m of the window,
 // n weights, m window values; number of the refusal and its two lengths (0 where there are none), record,
 // n weights, m window values.
-ghost use Rattle.std.specs.Prelude.{◌*◌, ◌≤◌, length};
-ghost use Rattle.replay.specs.declared.words.TheConstants.{MOST_TAPS};
-
 use crate::patterns::{case_of, single};
-use crate::records;
-use crate::records::{Left, Record};
-use crate::words::{MOST_TAPS, floats};
+use crate::records::Kept;
 use types::{EqualizeState, Equalized, Error, UnknownNumber};
 
 #[derive(Clone, Copy)]
@@ -59,15 +54,11 @@ fn new(given: EqualizeState, weights: &mut [f32], window: &mut [f32]) -> Equaliz
 // The words of a line.
 #[derive(Clone, Copy)]
 struct Case<'a> {
-    record: &'a Record,
+    start: Kept<'a>,
     operation: Operation,
     x: u64,
-    weights: &'a [u64],
-    window: &'a [u64],
     refusal: [u64; 3],
-    left: Left<'a>,
-    ghost weights_len: { length weights.now ≤ 2 * MOST_TAPS },
-    ghost window_len: { length window.now ≤ 2 * MOST_TAPS },
+    left: Kept<'a>,
 }
 
 impl Case<'_> {
@@ -76,22 +67,15 @@ impl Case<'_> {
         let (head, mut w) = w.split_first_chunk()?;
         let [operation, x, n, m]: [u64; 4] = *head;
         let (n, m) = (n as usize, m as usize);
-        if n > MOST_TAPS || m > MOST_TAPS {
-            return None;
-        }
         let operation = case_of(operation)?;
-        let weights = w.split_off(..2 * n)?;
-        let window = w.split_off(..2 * m)?;
+        let start = Kept::of(record, &mut w, n, m)?;
         let (refusal, w) = w.split_first_chunk()?;
-        let left = Left::of(w, 2 * n, 2 * m)?;
         Some(Case {
-            record,
+            start,
             operation,
             x,
-            weights,
-            window,
             refusal: *refusal,
-            left,
+            left: Kept::last(w, n, m)?,
         })
     }
 }
@@ -107,22 +91,13 @@ fn numbers_of(outcome: Result<(), Error>) -> [u64; 3] {
 
 pub(crate) fn agrees(w: &[u64]) -> Option<bool> {
     let case = Case::of(w)?;
-    let Some(s) = records::record_of(case.record) else {
+    let Some(s) = case.start.state() else {
         return Some(false);
     };
-    let mut weights = floats(case.weights);
-    let mut window = floats(case.window);
-    let done = case.operation.on(
-        s,
-        single(case.x),
-        weights.as_mut_slice(),
-        window.as_mut_slice(),
-    );
+    let mut weights = case.start.weights();
+    let mut window = case.start.window();
+    let (w, h) = (weights.as_mut_slice(), window.as_mut_slice());
+    let done = case.operation.on(s, single(case.x), w, h);
     let refused = numbers_of(done.outcome) == case.refusal;
-    Some(
-        refused
-            & case
-                .left
-                .is(done.state, weights.as_slice(), window.as_slice()),
-    )
+    Some(refused & case.left.is(done.state, w, h))
 }

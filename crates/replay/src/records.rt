@@ -1,14 +1,17 @@
 // The record of an equalizer, in 14 words: constellation, feedback taps, mu_cma, mu_dd, cma_symbols, the
 // bandwidth's upper and lower half, kp, ki, mode, count, mse, phase, freq.
+ghost use Rattle.std.specs.Prelude.{◌*◌, ◌≤◌, length};
+ghost use Rattle.replay.specs.declared.words.TheConstants.{MOST_TAPS};
+
 use crate::patterns::{case_of, double, pattern, pattern_double, single, whole};
-use crate::words::same_floats;
+use crate::words::{Floats, MOST_TAPS, floats, same_floats};
 use types::{EqParams, EqualizeState};
 
 pub(crate) const RECORD: usize = 14;
 
-pub(crate) type Record = [u64; RECORD];
+type Record = [u64; RECORD];
 
-pub(crate) fn record_of(r: &Record) -> Option<EqualizeState> {
+fn record_of(r: &Record) -> Option<EqualizeState> {
     let [
         k,
         taps,
@@ -67,29 +70,56 @@ fn words_of(s: EqualizeState) -> Record {
     ]
 }
 
-// What an operation leaves, in words: the record, the weights, the window.
+// What an operation starts from or leaves, in words: the record, the weights, the window.
 #[derive(Clone, Copy)]
-pub(crate) struct Left<'a> {
-    pub(crate) record: &'a Record,
-    pub(crate) weights: &'a [u64],
-    pub(crate) window: &'a [u64],
+pub(crate) struct Kept<'a> {
+    record: &'a Record,
+    weights: &'a [u64],
+    window: &'a [u64],
+    ghost weights_len: { length weights.now ≤ 2 * MOST_TAPS },
+    ghost window_len: { length window.now ≤ 2 * MOST_TAPS },
 }
 
-impl Left<'_> {
-    // The last words of a line, of so many weights and so many window values.
-    pub(crate) fn of(w: &[u64], weights: usize, window: usize) -> Option<Left<'_>> {
-        let (record, mut w) = w.split_first_chunk()?;
-        let weights = w.split_off(..weights)?;
-        let window = w.split_off(..window)?;
-        w.is_empty().then_some(Left {
+impl<'a> Kept<'a> {
+    // The record, and the next words of a line: n weights, m window values.
+    pub(crate) fn of(
+        record: &'a Record,
+        w: &mut &'a [u64],
+        n: usize,
+        m: usize,
+    ) -> Option<Kept<'a>> {
+        if n > MOST_TAPS || m > MOST_TAPS {
+            return None;
+        }
+        Some(Kept {
             record,
-            weights,
-            window,
+            weights: w.split_off(..2 * n)?,
+            window: w.split_off(..2 * m)?,
         })
     }
 
+    // The last words of a line: the record, n weights, m window values.
+    pub(crate) fn last(w: &'a [u64], n: usize, m: usize) -> Option<Kept<'a>> {
+        let (record, mut w) = w.split_first_chunk()?;
+        let kept = Kept::of(record, &mut w, n, m)?;
+        w.is_empty().then_some(kept)
+    }
+
+    pub(crate) fn state(self) -> Option<EqualizeState> {
+        record_of(self.record)
+    }
+
+    pub(crate) fn weights(self) -> Floats {
+        floats(self.weights)
+    }
+
+    pub(crate) fn window(self) -> Floats {
+        floats(self.window)
+    }
+
     pub(crate) fn is(self, s: EqualizeState, weights: &[f32], window: &[f32]) -> bool {
-        record_of(self.record).is_some_and(|left| words_of(s) == words_of(left))
+        self.state()
+            .is_some_and(|kept| words_of(s) == words_of(kept))
             & same_floats(weights, self.weights)
             & same_floats(window, self.window)
     }
