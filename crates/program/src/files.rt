@@ -4,9 +4,10 @@ use crate::arguments;
 use crate::arguments::{Name, Text, Value};
 use crate::messages::Part::{Reason, Words};
 use crate::messages::{Part, Program, Told};
+use either::{Either, Left, Right};
 use program_look::{FileId, Kind, Seen};
 use std::fs::{File, OpenOptions};
-use std::io::{Error, ErrorKind, Read, Seek, Stdin, Stdout, Write};
+use std::io::{Error, ErrorKind, Read, Seek, Stdin, Stdout};
 use std::{fs, io};
 
 // What stands behind the name of an output that is not whole.
@@ -20,17 +21,13 @@ pub enum OpenInput {
 }
 
 // What an input is read from.
-#[derive(Clone, Copy)]
-pub enum Source<'a> {
-    Standard(Stdin),
-    Named(&'a File),
-}
+pub type Source<'a> = Either<Stdin, &'a File>;
 
 impl OpenInput {
     pub fn source(&self, rt: &HostRuntime) -> Source<'_> {
         match self {
-            OpenInput::Standard => Source::Standard(rt.stdin()),
-            OpenInput::Named(file) => Source::Named(file),
+            OpenInput::Standard => Left(rt.stdin()),
+            OpenInput::Named(file) => Right(file),
         }
     }
 
@@ -54,15 +51,6 @@ impl OpenInput {
     }
 }
 
-impl Read for Source<'_> {
-    fn read(&mut self, buf: &mut [u8]) -> io::Result<usize> {
-        match *self {
-            Source::Standard(mut stdin) => stdin.read(buf),
-            Source::Named(mut file) => file.read(buf),
-        }
-    }
-}
-
 // A file that is an output's name and `.part`, and which file that is.
 #[derive(Drop)]
 pub struct PartFile {
@@ -78,31 +66,14 @@ pub enum Output {
 }
 
 // What an output is written to.
-#[derive(Clone, Copy)]
-pub enum Sink<'a> {
-    Standard(Stdout),
-    Named(&'a File),
-}
+pub type Sink<'a> = Either<Stdout, &'a File>;
 
 impl Output {
     pub fn sink(&self, rt: &HostRuntime) -> Sink<'_> {
         match self {
-            Output::Standard => Sink::Standard(rt.stdout()),
-            Output::Named(part) => Sink::Named(&part.file),
+            Output::Standard => Left(rt.stdout()),
+            Output::Named(part) => Right(&part.file),
         }
-    }
-}
-
-impl Write for Sink<'_> {
-    fn write(&mut self, buf: &[u8]) -> io::Result<usize> {
-        match *self {
-            Sink::Standard(mut stdout) => stdout.write(buf),
-            Sink::Named(mut file) => file.write(buf),
-        }
-    }
-
-    fn flush(&mut self) -> io::Result<()> {
-        Ok(())
     }
 }
 
