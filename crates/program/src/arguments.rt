@@ -8,7 +8,8 @@ use std::env::{Env, FillError};
 // The text of an argument, which has at most 4,096 bytes.
 pub type Text = Page<4096>;
 
-// Where the text of a value stands: behind `from` bytes of argument `at`.
+// Where the text of a value stands: behind `from` bytes of argument `at`. No text: an argument is copied into a buffer where it is read, and there is
+// no heap to keep them all.
 #[derive(Clone, Copy, PartialEq, Eq)]
 pub struct Value {
     pub at: usize,
@@ -24,12 +25,15 @@ impl From<usize> for Value {
     }
 }
 
-// What an option of a file names: standard input or output, which `-` names, or a file.
-#[derive(Clone, Copy, PartialEq, Eq)]
-pub enum Name {
+// Standard input or output, or a file, of which there is a T.
+#[derive(Clone, Copy, PartialEq, Eq, Drop)]
+pub enum Stream<T> {
     Standard,
-    File(Value),
+    File(T),
 }
+
+// What an option of a file names: standard input or output, which `-` names, or a file.
+pub type Name = Stream<Value>;
 
 // What is wrong with an argument.
 #[derive(Clone, Copy)]

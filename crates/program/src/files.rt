@@ -1,7 +1,7 @@
 // Files. An output that is named is made as its name and `.part`, which must not be there, and gets its name once it is whole. An output is a plain
 // file, and no two outputs and no `.part` are one file.
 use crate::arguments;
-use crate::arguments::{Name, Text, Value};
+use crate::arguments::{Name, Stream, Text, Value};
 use crate::messages::Part::{Reason, Words};
 use crate::messages::{Part, Program, Told};
 use either::{Either, Left, Right};
@@ -14,11 +14,7 @@ use std::{fs, io};
 const PART: &[u8] = b".part";
 
 // An input: standard input, or a file that is open.
-#[derive(Drop)]
-pub enum OpenInput {
-    Standard,
-    Named(File),
-}
+pub type OpenInput = Stream<File>;
 
 // What an input is read from.
 pub type Source<'a> = Either<Stdin, &'a File>;
@@ -27,7 +23,7 @@ impl OpenInput {
     pub fn source(&self, rt: &HostRuntime) -> Source<'_> {
         match self {
             OpenInput::Standard => Left(rt.stdin()),
-            OpenInput::Named(file) => Right(file),
+            OpenInput::File(file) => Right(file),
         }
     }
 
@@ -35,7 +31,7 @@ impl OpenInput {
     pub fn look(&self, rt: &HostRuntime) -> Seen {
         match self {
             OpenInput::Standard => program_look::look_input(rt),
-            OpenInput::Named(file) => program_look::look_open(file),
+            OpenInput::File(file) => program_look::look_open(file),
         }
     }
 
@@ -43,7 +39,7 @@ impl OpenInput {
     pub fn is_at_hand(&self, rt: &HostRuntime) -> bool {
         match self {
             OpenInput::Standard => is_plain(program_look::look_input(rt)),
-            OpenInput::Named(file) => {
+            OpenInput::File(file) => {
                 let mut at = file;
                 at.stream_position().is_ok()
             }
@@ -59,11 +55,8 @@ pub struct PartFile {
     id: Option<FileId>,
 }
 
-#[derive(Drop)]
-pub enum Output {
-    Standard,
-    Named(PartFile),
-}
+// An output: standard output, or a file that is not whole.
+pub type Output = Stream<PartFile>;
 
 // What an output is written to.
 pub type Sink<'a> = Either<Stdout, &'a File>;
@@ -72,7 +65,7 @@ impl Output {
     pub fn sink(&self, rt: &HostRuntime) -> Sink<'_> {
         match self {
             Output::Standard => Left(rt.stdout()),
-            Output::Named(part) => Right(&part.file),
+            Output::File(part) => Right(&part.file),
         }
     }
 }
@@ -163,7 +156,7 @@ impl Program<'_> {
         let Name::File(v) = name else {
             return Ok(OpenInput::Standard);
         };
-        readable(self.rt, v).map(OpenInput::Named).map_err(|e| {
+        readable(self.rt, v).map(OpenInput::File).map_err(|e| {
             self.tell(&[
                 Words(b"cannot read "),
                 Part::Text(v),
@@ -219,7 +212,7 @@ impl Program<'_> {
     fn made(self, v: Value, input: Seen) -> Result<Output, Told> {
         self.can_replace(v)?;
         created(self.rt, v)
-            .map(Output::Named)
+            .map(Output::File)
             .map_err(|e| self.not_made(v, input, e))
     }
 
@@ -261,13 +254,13 @@ impl Program<'_> {
         others: &[Option<&Output>],
     ) -> Result<Output, Told> {
         for other in others {
-            if let Some(Output::Named(part)) = *other {
+            if let Some(Output::File(part)) = *other {
                 self.apart(v, part)?;
             }
         }
         let made = self.made(v, input)?;
         for other in others {
-            if let (Some(Output::Named(part)), Output::Named(new)) = (*other, &made) {
+            if let (Some(Output::File(part)), Output::File(new)) = (*other, &made) {
                 if let Err(told) = self.apart(part.name, new) {
                     self.dropped(made);
                     return Err(told);
@@ -307,7 +300,7 @@ impl Program<'_> {
 
     // Takes away what was made.
     pub fn dropped(self, o: Output) {
-        if let Output::Named(part) = o {
+        if let Output::File(part) = o {
             let v = part.name;
             drop(part);
             let _ = removed(self.rt, v);
@@ -316,7 +309,7 @@ impl Program<'_> {
 
     // Has the system bring an output that is whole to its place, closes it and gives it its name.
     pub fn whole(self, o: Output) -> Result<(), Told> {
-        let Output::Named(part) = o else {
+        let Output::File(part) = o else {
             return Ok(());
         };
         let v = part.name;
@@ -341,7 +334,7 @@ impl Program<'_> {
 
     // Closes an output that is not whole, and says what is there.
     pub fn left(self, o: Output) {
-        let Output::Named(part) = o else {
+        let Output::File(part) = o else {
             return;
         };
         let v = part.name;
