@@ -1,5 +1,7 @@
 // Files. An output that is named is made as its name and `.part`, which must not be there, and gets its name once it is whole. An output is a plain
 // file, and no two outputs and no `.part` are one file.
+ghost use Rattle.std.specs.Prelude.{◌≡◌, Some, slice_get};
+
 use crate::arguments;
 use crate::arguments::{Name, Stream, Text, Value};
 use crate::messages::Part::{Reason, Words};
@@ -75,58 +77,6 @@ fn named(bytes: &[u8]) -> io::Result<&str> {
     str::from_utf8(bytes).map_err(|_| Error::from(ErrorKind::InvalidData))
 }
 
-// A value and `.part`, where there is room for it and the 0 behind it.
-fn part_name(rt: &HostRuntime, v: Value) -> io::Result<Text> {
-    let mut name = arguments::text_of(rt, v);
-    if name.room() <= PART.len() {
-        return Err(Error::from(ErrorKind::InvalidFilename));
-    }
-    name.words(PART);
-    Ok(name)
-}
-
-// A file that can be read: a read of nothing fails for a folder, which can be opened.
-fn readable(rt: &HostRuntime, v: Value) -> io::Result<File> {
-    let name = arguments::text_of(rt, v);
-    let mut file = File::open(rt, named(name.bytes())?)?;
-    let mut none = [0u8; 0];
-    file.read(&mut none)?;
-    Ok(file)
-}
-
-// The `.part` of a value, which was not there.
-fn created(rt: &HostRuntime, v: Value) -> io::Result<PartFile> {
-    let name = part_name(rt, v)?;
-    let file = OpenOptions::new()
-        .write(true)
-        .create_new(true)
-        .open(rt, named(name.bytes())?)?;
-    let id = program_look::look(rt, name.bytes()).file();
-    Ok(PartFile { name: v, file, id })
-}
-
-fn removed(rt: &HostRuntime, v: Value) -> io::Result<()> {
-    let name = part_name(rt, v)?;
-    fs::remove_file(rt, named(name.bytes())?)
-}
-
-// Gives the `.part` of a value its name.
-fn renamed(rt: &HostRuntime, v: Value) -> io::Result<()> {
-    let part = part_name(rt, v)?;
-    let name = arguments::text_of(rt, v);
-    fs::rename(rt, named(part.bytes())?, named(name.bytes())?)
-}
-
-// Which file a value names.
-fn looked(rt: &HostRuntime, v: Value) -> Seen {
-    program_look::look(rt, arguments::text_of(rt, v).bytes())
-}
-
-// Which file a value and `.part` name.
-fn looked_part(rt: &HostRuntime, v: Value) -> Seen {
-    part_name(rt, v).map_or(Seen::Missing, |name| program_look::look(rt, name.bytes()))
-}
-
 fn is_plain(seen: Seen) -> bool {
     matches!(seen, Seen::There(Kind::File, _))
 }
@@ -150,13 +100,86 @@ fn hindrance(seen: Seen) -> Option<&'static [u8]> {
     }
 }
 
+// The line of a write that failed: of a named output its `.part` was written.
+pub fn unwritten(name: Name, e: Error) -> [Part<'static>; 5]
+    ensures file { (v : Value) → name ≡ Stream.File v → slice_get result 1 ≡ Some (Part.Text v) }
+    ensures reason { slice_get result 4 ≡ Some (Part.Reason e) }
+{
+    let (file, part) = match name {
+        Name::Standard => (Words(b"standard output"), Words(b"")),
+        Name::File(v) => (Part::Text(v), Words(PART)),
+    };
+    [
+        Words(b"writing "),
+        file,
+        part,
+        Words(b" failed: "),
+        Reason(e),
+    ]
+}
+
 impl Program<'_> {
+    // A value and `.part`, where there is room for it and the 0 behind it.
+    fn part_name(self, v: Value) -> io::Result<Text> {
+        let mut name = arguments::text_of(self.rt, v);
+        if name.room() <= PART.len() {
+            return Err(Error::from(ErrorKind::InvalidFilename));
+        }
+        name.words(PART);
+        Ok(name)
+    }
+
+    // A file that can be read: a read of nothing fails for a folder, which can be opened.
+    fn readable(self, v: Value) -> io::Result<File> {
+        let name = arguments::text_of(self.rt, v);
+        let mut file = File::open(self.rt, named(name.bytes())?)?;
+        let mut none = [0u8; 0];
+        file.read(&mut none)?;
+        Ok(file)
+    }
+
+    // The `.part` of a value, which was not there.
+    fn created(self, v: Value) -> io::Result<PartFile> {
+        let name = self.part_name(v)?;
+        let file = OpenOptions::new()
+            .write(true)
+            .create_new(true)
+            .open(self.rt, named(name.bytes())?)?;
+        let id = program_look::look(self.rt, name.bytes()).file();
+        Ok(PartFile { name: v, file, id })
+    }
+
+    fn removed(self, v: Value) -> io::Result<()> {
+        let name = self.part_name(v)?;
+        fs::remove_file(self.rt, named(name.bytes())?)
+    }
+
+    // Gives the `.part` of a value its name.
+    fn renamed(self, v: Value) -> io::Result<()> {
+        let part = self.part_name(v)?;
+        let name = arguments::text_of(self.rt, v);
+        fs::rename(self.rt, named(part.bytes())?, named(name.bytes())?)
+    }
+
+    // Which file a value names.
+    fn looked(self, v: Value) -> Seen {
+        program_look::look(self.rt, arguments::text_of(self.rt, v).bytes())
+    }
+
+    // Which file a value and `.part` name.
+    fn looked_part(self, v: Value) -> Seen {
+        self.part_name(v).map_or(
+            Seen::Missing,
+            |name| program_look::look(self.rt, name.bytes()),
+        )
+    }
+
     // An input that is open.
     pub fn input(self, name: Name) -> Result<OpenInput, Told> {
         let Name::File(v) = name else {
             return Ok(OpenInput::Standard);
         };
-        readable(self.rt, v).map(OpenInput::File).map_err(|e| {
+        self.readable(v).map(OpenInput::File).map_err(|e| {
             self.tell(&[
                 Words(b"cannot read "),
                 Part::Text(v),
@@ -169,7 +192,7 @@ impl Program<'_> {
 
     // A named output is a file that it can replace, or none.
     fn can_replace(self, v: Value) -> Result<(), Told> {
-        match hindrance(looked(self.rt, v)) {
+        match hindrance(self.looked(v)) {
             None => Ok(()),
             Some(why) => Err(self.tell(&[
                 Words(b"cannot write "),
@@ -191,7 +214,7 @@ impl Program<'_> {
                 Words(b"; nothing was written"),
             ]);
         }
-        if is_file(looked_part(self.rt, v), input.file()) {
+        if is_file(self.looked_part(v), input.file()) {
             return self.tell(&[
                 Words(b"the input is "),
                 Part::Text(v),
@@ -211,7 +234,7 @@ impl Program<'_> {
     // Makes the `.part` of a named output.
     fn made(self, v: Value, input: Seen) -> Result<Output, Told> {
         self.can_replace(v)?;
-        created(self.rt, v)
+        self.created(v)
             .map(Output::File)
             .map_err(|e| self.not_made(v, input, e))
     }
@@ -226,7 +249,7 @@ impl Program<'_> {
 
     // A value does not name the file of an output, or its `.part`, and would not be written as it.
     fn apart(self, v: Value, o: &PartFile) -> Result<(), Told> {
-        let seen = looked(self.rt, v);
+        let seen = self.looked(v);
         if is_file(seen, o.id) {
             return Err(self.tell(&[
                 Part::Text(v),
@@ -235,7 +258,7 @@ impl Program<'_> {
                 Words(b" is written as until it is whole; nothing was written"),
             ]));
         }
-        if is_file(looked_part(self.rt, v), o.id) || is_file(seen, looked(self.rt, o.name).file()) {
+        if is_file(self.looked_part(v), o.id) || is_file(seen, self.looked(o.name).file()) {
             return Err(self.tell(&[
                 Part::Text(v),
                 Words(b" and "),
@@ -289,7 +312,7 @@ impl Program<'_> {
         let Some(Name::File(v)) = name else {
             return Ok(());
         };
-        if is_file(looked(self.rt, v), input.file()) {
+        if is_file(self.looked(v), input.file()) {
             return Err(self.tell(&[
                 Part::Text(v),
                 Words(b" is the input, which this output would replace; nothing was written"),
@@ -303,7 +326,7 @@ impl Program<'_> {
         if let Output::File(part) = o {
             let v = part.name;
             drop(part);
-            let _ = removed(self.rt, v);
+            let _ = self.removed(v);
         }
     }
 
@@ -315,15 +338,8 @@ impl Program<'_> {
         let v = part.name;
         let synced = part.file.sync_all();
         drop(part);
-        synced.map_err(|e| {
-            self.tell(&[
-                Words(b"writing "),
-                Part::Text(v),
-                Words(b".part failed: "),
-                Reason(e),
-            ])
-        })?;
-        renamed(self.rt, v).map_err(|e| {
+        synced.map_err(|e| self.tell(&unwritten(Name::File(v), e)))?;
+        self.renamed(v).map_err(|e| {
             self.tell(&[
                 Part::Text(v),
                 Words(b".part is whole, and cannot be given its name: "),
@@ -339,7 +355,7 @@ impl Program<'_> {
         };
         let v = part.name;
         drop(part);
-        if looked(self.rt, v).file().is_some() {
+        if self.looked(v).file().is_some() {
             self.tell(&[
                 Part::Text(v),
                 Words(
