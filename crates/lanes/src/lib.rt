@@ -61,7 +61,7 @@ fn beside(at: usize, front: usize, lanes: usize, more: usize) -> Halves
     Halves {
         forth: Half { at, from: 0, lanes },
         fed: Half {
-            at: at + (Window::BACK + 1) - front,
+            at: at + Window::FED - front,
             from: Weights::BACK,
             lanes: more,
         },
@@ -69,7 +69,7 @@ fn beside(at: usize, front: usize, lanes: usize, more: usize) -> Halves
 }
 
 impl Shape {
-    // The halves of the sum for the sample at `at`. No type for a place below 64: it is a number that runs as 63 - k, and would be wrapped at each of four calls.
+    // The halves of the sum for the sample at `at`. No type for a place below 64: it would save three `requires`, and cost a struct and five `.at`.
     pub fn sums(self, at: usize) -> Halves
         requires { at ≤ 63 }
         ensures forth { (result.forth.at ≡ at) × (result.forth.lanes ≡ self.lanes) }
@@ -123,7 +123,7 @@ impl<const N: usize> Split<N> {
 pub type Weights = Split<LANES>;
 
 impl Weights {
-    // Here and in `Window`, and no `Split<N>::ZERO`: the value of a constant cannot name a constant of a generic block yet.
+    // Here and in `Window`, and no `Split<N>::ZERO`: of a constant of a generic block a proof knows no value.
     pub const ZERO: Weights = Split {
         re: [0.0; LANES],
         im: [0.0; LANES],
@@ -149,6 +149,12 @@ impl Window {
         squares: [0.0; PLACES],
     };
 
-    // A feedback window stands so many places above its forward window; with a sample put in before that one, one more.
+    // A feedback window stands so many places above its forward window.
     pub const BACK: usize = 152;
+
+    // With a sample put in before that one, one more.
+    pub const FED: usize = Window::BACK + 1;
+
+    // The feedback window of the forward window at RUN, where a run's begin.
+    pub const HOME: usize = RUN + Window::BACK;
 }

@@ -33,7 +33,7 @@ pub fn measure(g: Shape, at: usize, w: &Weights, h: &Window, forward: f32) -> Me
     ensures { Measures g.m g.lanes g.more g.front at (arrays_of w.now h.now) forward result.y result.power }
 {
     let p = g.sums(at);
-    let back = at + (Window::BACK + 1);
+    let back = at + Window::FED;
     let half = g.m / 2;
     let p1 = chain(&h.squares, back, half, forward);
     let re = lanes_filter::dot_split::<Re>(h, w, p.forth, p.fed);

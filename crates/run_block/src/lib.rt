@@ -70,9 +70,8 @@ fn load_linear(call: &Call, weights: &[f32], window: &[f32], w: &mut Weights, h:
     lanes_load::split(w, 0, weights, 0, n);
     lanes_load::split(w, Weights::BACK + front, weights, n, m);
     lanes_load::split(&mut h.values, RUN, window, 0, n);
-    let back = RUN + Window::BACK;
-    lanes_load::split(&mut h.values, back, window, n, m);
-    lanes_prepare::squares(h, back, back + m);
+    lanes_load::split(&mut h.values, Window::HOME, window, n, m);
+    lanes_prepare::squares(h, Window::HOME, Window::HOME + m);
 }
 
 // And back.
@@ -87,7 +86,7 @@ fn store_linear(call: &Call, weights: &mut [f32], window: &mut [f32], w: &Weight
     lanes_load::joined(weights, w, 0, 0, n);
     lanes_load::joined(weights, w, Weights::BACK + front, n, m);
     lanes_load::joined(window, &h.values, RUN, 0, n);
-    lanes_load::joined(window, &h.values, RUN + Window::BACK, n, m);
+    lanes_load::joined(window, &h.values, Window::HOME, n, m);
 }
 
 // A block by n forward and m feedback taps: arrays, all runs, and back.

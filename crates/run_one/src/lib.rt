@@ -34,12 +34,11 @@ fn finish_run(call: &Call, h: &mut Window, len: usize)
     lanes_load::moved(&mut h.values, first, RUN, call.n);
     let m = call.shape.m;
     let back = first + Window::BACK;
-    let home = RUN + Window::BACK;
-    lanes_load::moved(&mut h.values, back, home, m);
-    h.squares.copy_within(back..back + m, home);
+    lanes_load::moved(&mut h.values, back, Window::HOME, m);
+    h.squares.copy_within(back..back + m, Window::HOME);
 }
 
-// One run: the samples i .. e, at most RUN. By i and e, since `&mut output[a..b]` stands here and not at the caller.
+// One run: the samples i .. e, at most RUN. By i and e: the specification has the run's `&mut output[a..b]` here, in place.
 pub fn run(
     state: EqualizeState,
     call: &Call,
