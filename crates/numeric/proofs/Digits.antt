@@ -8,11 +8,10 @@ use native.Mathlib.Omega.{arith}
 use lib.Dec.{T}
 use lib.Pow.{pow-lt}
 use lib.Bits.{bit_and, bit_or, and_mask, or_shifted_r}
-use borrow.Author.Tests.{le-ltb}
 use lib.Ieee.{Float, nan, inf, fin, binary32, nan_bits, is_nan, of_bits}
-use lib.Ieee.Bits.{nan_bits_above}
 use lib.Ieee.Nearest.{closest}
 use Rattle.laws.specs.Half.{closest-down, closest-up, closest-tie}
+use Rattle.laws.specs.NoNan.{single_pattern}
 use Rattle.definition.specs.Floats.{narrow}
 
 -- ---- `nearest`
@@ -53,7 +52,7 @@ module _ (p : ℕ) (P : p ≤ 0x7f80_0000) where
   rest-signed = omega arith
 
   no_nan : (n : ℕ) → n % 2 ^ 31 ≡ p → T (not (nan_bits binary32 n))
-  no_nan n e = subst (λ (b : Bool). T (not b)) (sym (nan_bits_above binary32 n ∙ le-ltb 0x7f80_0000 (n % 2 ^ 31) (le_trans (le_of_eq e) P))) tt
+  no_nan n e = single_pattern n (le_trans (le_of_eq e) P)
 
   small : p < 2 ^ 31
   small = omega arith
