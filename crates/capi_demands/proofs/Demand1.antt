@@ -7,12 +7,13 @@ use mathlib.Core.List.{List, [], ◌∷◌}
 use lib.ListN.{get_or}
 use lib.Ieee.{Float}
 use Rattle.types.specs.declared.Error.TheVariants.{Odd, Record}
-use Rattle.std.specs.Prelude.{Ok, Err}
-use Rattle.definition.specs.Refusals.{Outcome, reply_of, first_of}
+use Rattle.std.specs.Prelude.{⊤, Err}
+use Rattle.definition.specs.Refusals.{reply_of, first_of}
 use Rattle.definition.specs.Sample.{Equalizer}
-use Rattle.definition.specs.Rules.{rules, accepted_def}
-use Rattle.definition.specs.Calls.{lengths_of, verdict_def, Answer, answer_by, equalize_def}
+use Rattle.definition.specs.Rules.{accepted_def}
+use Rattle.definition.specs.Calls.{Answer, equalize_def}
 use Rattle.std.proofs.lemmas.Bool.{and_from}
+use Rattle.definition_laws.proofs.Verdicts.{reply_is}
 use Rattle.demands.specs.Demand1 as def
 use Rattle.demands.proofs.Served.{demand1, by_lengths}
 use Rattle.capi_numbers.specs.RawRecord.{known_record, replied, unknown}
@@ -30,15 +31,6 @@ known_over q = out_known q.state
 handed_over : (q : Equalizer) → accepted_def q ≡ true → accepted (kept_of q) ≡ true
 unfolding accepted
 handed_over q a = and_from _ _ (known_over q) (subst (λ (p : Equalizer). accepted_def p ≡ true) (sym (there q)) a)
-
--- the reply is the outcome's
-reply_is : (q : Equalizer) (xs ys : List Float) (ms : List ℕ) → (equalize_def q xs ys ms).reply ≡ reply_of (equalize_def q xs ys ms).outcome
-unfolding equalize_def
-reply_is q xs ys ms = go (verdict_def (rules q) (lengths_of q xs ys ms))
-  where
-    go : (v : Outcome) → (answer_by v q xs ys ms).reply ≡ reply_of (answer_by v q xs ys ms).outcome
-    go (Ok tt) = refl
-    go (Err e) = refl
 
 -- ---- a record of known numbers
 
@@ -67,7 +59,7 @@ module _ (k : Kept) (xs ys : List Float) (ms : List ℕ) where
 
 -- ---- a record with an unknown number
 
-unknown_is : (b : Bool) → unknown b ≡ reply_of (Err (cond b Record Odd))
+unknown_is : (b : Bool) → unknown b ≡ reply_of {A = ⊤} (Err (cond b Record Odd))
 unfolding unknown first_of
 unknown_is true = refl
 unknown_is false = refl

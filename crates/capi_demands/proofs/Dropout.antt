@@ -1,8 +1,9 @@
 -- Demand 3 over two lists of exported calls, from that of the definition's. Assumes nothing.
 use Prim.Native.Nat.{ℕ, ◌*◌, ◌≤◌}
-use mathlib.Core.Path.{◌≡◌, refl, sym, ◌∙◌, ap, subst}
+use mathlib.Core.Path.{◌≡◌, sym, ◌∙◌, ap, subst}
 use mathlib.Core.Bool.{true}
 use mathlib.Core.List.{List, [], ◌∷◌, ◌++◌, map}
+use Rattle.std.proofs.lemmas.List.{map-append}
 use lib.ListN.{take}
 use Rattle.types.specs.declared.C32.{C32}
 use Rattle.demands.specs.Traces as def
@@ -14,10 +15,6 @@ use Rattle.capi_demands.specs.Traces.{Kept, equalizer_of, kept_of, leaves, Seen,
 use Rattle.capi_demands.specs.Demand3.{Dropped, Demand3}
 use Rattle.capi_demands.proofs.Told.{known_part, accepted_part, there, observed, told}
 use Rattle.capi_demands.proofs.Cut.{calls_are_one_run}
-
-map_append : (ss ts : List Seen) → map observed (ss ++ ts) ≡ map observed ss ++ map observed ts
-map_append [] ts = refl
-map_append (s ∷ ss) ts = ap (λ (l : List def.Observed). observed s ∷ l) (map_append ss ts)
 
 -- the first calls of a list that follow one another do so too
 follow_front : (k : Kept) (ss ts : List Seen) → Follow k (ss ++ ts) → Follow k ss
@@ -31,7 +28,7 @@ module _ (k : Kept) (ss : List Seen) (n : ℕ) (bs stream : List C32) (h : known
   at-end i front back c l e =
       let t = told k front h (follow_front k front back (subst (λ (x : List Seen). Follow k x) c f)) in
       subst (AfterBlanks (equalizer_of k) i) (sym (ap equalizer_of t.left ∙ there (def.left (equalizer_of k) (map observed front))))
-      (d.between i (map observed front) (map observed back) (ap (map observed) c ∙ map_append front back) l (sym t.samples ∙ e))
+      (d.between i (map observed front) (map observed back) (ap (map observed) c ∙ map-append observed front back) l (sym t.samples ∙ e))
 
   dropped : Dropped k ss n bs
   dropped =

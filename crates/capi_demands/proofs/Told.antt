@@ -16,6 +16,7 @@ use Rattle.definition.specs.Packed.{equalizer}
 use Rattle.definition.specs.Calls.{lengths_of, verdict_def, Answer, answer_by, equalize_def}
 use Rattle.definition.specs.Paths.{Path, plain, quick, joint, by_taps}
 use Rattle.std.proofs.lemmas.Bool.{and_parts}
+use Rattle.definition_laws.proofs.Verdicts.{answered_by}
 use Rattle.demands.specs.Traces as def
 use Rattle.capi_numbers.specs.declared.EqRecord.{EqRecord}
 use Rattle.capi_numbers.specs.RawRecord.{known_record, replied}
@@ -79,13 +80,9 @@ unfolding replied
 served_is a q xs ys ms (Ok tt) l e = rw e refl
 served_is a q xs ys ms (Err x) l e = rw (e, not_zero x) refl
 
-by_verdict : (q : Equalizer) (xs ys : List Float) (ms : List ℕ) → equalize_def q xs ys ms ≡ answer_by (verdict_def (rules q) (lengths_of q xs ys ms)) q xs ys ms
-unfolding equalize_def
-by_verdict q xs ys ms = refl
-
 pub served : {A : Type 0} (q : Equalizer) (xs ys : List Float) (ms : List ℕ) (l : List A)
     → if_served (block_out (equalize_def q xs ys ms)).filter.reply.number l ≡ def.if_served (equalize_def q xs ys ms).outcome l
-served q xs ys ms l = served_is (equalize_def q xs ys ms) q xs ys ms (verdict_def (rules q) (lengths_of q xs ys ms)) l (by_verdict q xs ys ms)
+served q xs ys ms l = served_is (equalize_def q xs ys ms) q xs ys ms (verdict_def (rules q) (lengths_of q xs ys ms)) l (answered_by q xs ys ms)
 
 -- ---- lists
 

@@ -1,5 +1,5 @@
 -- DEMAND 1 of the exported equalizing calls: each is served or refused, whatever it is handed, and what a served one leaves is accepted by the next.
-use Rattle.std.specs.Prelude.{ℕ, ◌/◌, ◌≡◌, ◌⊎◌, true, List, [], map, length, get_or, Float, Err}
+use Rattle.std.specs.Prelude.{ℕ, ◌/◌, ◌≡◌, ◌⊎◌, ⊤, true, List, map, length, get_or, Float, Err}
 use Rattle.types.specs.declared.Error.{Error}
 use Rattle.definition.specs.Refusals.{reply_of}
 use Rattle.demands.specs.Demand1.{lengths_verdict}
@@ -17,7 +17,7 @@ pub record ServedCall (xs : List Float) (b : Block) : Type 0 where
 -- refused: the reply is that of a listed error, its number and lengths; record, weights, window, output and marks are as they came
 pub record RefusedCall (k : Kept) (ys : List Float) (ms : List ℕ) (b : Block) : Type 0 where
   pub error : Error
-  pub reply : b.filter.reply ≡ replied k.raw (reply_of (Err error))
+  pub reply : b.filter.reply ≡ replied k.raw (reply_of {A = ⊤} (Err error))
   pub left : leaves b ≡ k
   pub out : b.out ≡ ys
   pub marks : b.marks ≡ ms

@@ -1,8 +1,8 @@
 // The record of the exported calls, as numbers, and their reply. Numbers are checked on the way in.
 #![tactic(auto)]
 
-ghost use Rattle.std.specs.Prelude.{◌≡◌};
-ghost use Rattle.definition.specs.Refusals.{reply_of, fresh_reply};
+ghost use Rattle.std.specs.Prelude.{◌≡◌, ⊤};
+ghost use Rattle.definition.specs.Refusals.{reply_of};
 ghost use Rattle.capi_numbers.specs.RawRecord.{known_settings, known_record, settings_in, record_in, read_settings, read_record, settings_out, record_out, no_record, replied, unknown as unknownDef, fresh_out};
 
 use types::{
@@ -170,7 +170,7 @@ impl EqReply {
     // A reply that serves.
     #[tactic(auto, unfolding(crate::specs::RawRecord::replied))]
     pub fn served(record: EqRecord) -> EqReply
-        ensures { result ≡ replied «record» (reply_of (Ok tt)) }
+        ensures { result ≡ replied «record» (reply_of {A = ⊤} (Ok tt)) }
     {
         EqReply {
             record,
@@ -183,7 +183,7 @@ impl EqReply {
     // A reply that refuses. Lengths are 0 where the refusal returns none.
     #[tactic(auto, unfolding(crate::specs::RawRecord::replied))]
     fn refused(record: EqRecord, e: Error) -> EqReply
-        ensures { result ≡ replied «record» (reply_of (Err e)) }
+        ensures { result ≡ replied «record» (reply_of {A = ⊤} (Err e)) }
     {
         let Lengths { expected, got } = e.lengths().unwrap_or_default();
         EqReply {
@@ -210,7 +210,7 @@ impl EqReply {
 // What new answers, as numbers.
 impl From<Result<EqualizeState, Error>> for EqReply {
     fn from(f: Result<EqualizeState, Error>) -> EqReply
-        ensures { result ≡ replied (fresh_out f) (fresh_reply f) }
+        ensures { result ≡ replied (fresh_out f) (reply_of f) }
     {
         match f {
             Ok(state) => EqReply::served(EqRecord::from(state)),
@@ -219,7 +219,7 @@ impl From<Result<EqualizeState, Error>> for EqReply {
     }
 }
 
-// What all other calls answer, as numbers.
+// What all other calls answer, as numbers. By a match of its own: one function over both outcomes would be four lines longer, and have a type parameter.
 impl From<Equalized> for EqReply {
     fn from(e: Equalized) -> EqReply
         ensures { result ≡ replied (record_out e.state) (reply_of e.outcome) }

@@ -1,5 +1,5 @@
 -- THE EXPORTED CALLS THAT TAKE NO SAMPLES, whole: what each replies and leaves, from the record as numbers (capi_numbers).
-use Rattle.std.specs.Prelude.{true, cond, ◌&&◌, List, length, Float, Ok}
+use Rattle.std.specs.Prelude.{⊤, true, cond, ◌&&◌, List, length, Float, Ok}
 use Rattle.definition.specs.Refusals.{reply_of}
 use Rattle.definition.specs.Packed.{equalizer}
 use Rattle.definition.specs.Calls.{even, NewAnswer, new_def, ResetAnswer, reset_def, SetAnswer, set_mu_cma_def, set_mu_dd_def, set_frequency_def}
@@ -44,4 +44,4 @@ unfoldable pub set_mu_dd_raw : EqRecord → Float → EqReply
 set_mu_dd_raw r mu = cond (known_record r) (set_out (set_mu_dd_def (record_in r) mu)) (replied r (unknown true))
 
 unfoldable pub set_frequency_raw : EqRecord → Float → EqReply
-set_frequency_raw r v = cond (known_record r) (replied (record_out (set_frequency_def (record_in r) v)) (reply_of (Ok tt))) (replied r (unknown true))
+set_frequency_raw r v = cond (known_record r) (replied (record_out (set_frequency_def (record_in r) v)) (reply_of {A = ⊤} (Ok tt))) (replied r (unknown true))

@@ -3,7 +3,7 @@ use mathlib.Core.Path.{◌≡◌, refl, sym, ap, ◌∙◌, subst}
 use mathlib.Core.Bool.{Bool, true, false, cond}
 use mathlib.Core.List.{List}
 use Prim.Native.Nat.{ℕ, zero, suc, ◌+◌, ◌-◌, ◌*◌, ◌/◌, ◌^◌, ◌≤◌, ◌<◌, min}
-use native.Mathlib.Nat.{add-zero, le_of_eq, le_antisymm, mul-one, le-min, le-div_iff_mul-le, div-lt_iff_lt-mul, lt_of_le_of_lt, min-le_right, min-le_left, zero-mul, le_of_mul-le-mul_right}
+use native.Mathlib.Nat.{add-zero, le_of_eq, le_antisymm, mul-one, le-min, le-div_iff_mul-le, div-lt_iff_lt-mul, lt_of_le_of_lt, min-le_right, zero-mul, le_of_mul-le-mul_right}
 use native.Mathlib.Omega.{arith}
 use lib.IntN.{pos}
 use lib.Count.{count_trailing_zeros}
@@ -17,6 +17,7 @@ use Rattle.std.specs.Prelude.{count_by}
 use Rattle.std.specs.List.{range_with_len}
 use Rattle.std.proofs.lemmas.List.Sums.{sum_by-cons}
 use Rattle.definition.specs.Points.{held_to}
+use Rattle.definition.proofs.Held.{held_le}
 
 -- ---- a comparison with the whole number n * 2 ^ j, as a fact on the floor
 
@@ -41,14 +42,6 @@ under top n j (inf false) g h = absurd (subst T h tt)
 under top n j (fin true m e) g h = g
 under top n j (fin false m e) g h =
     lt_of_le_of_lt (min-le_right top (m * up e / down e)) ((div-lt_iff_lt-mul (down_pos e)).1 (subst (λ (x : ℕ). x < n * 2 ^ j * down e) (mul-one (m * up e)) (le_no _ _ h)))
-
-held_le : (top : ℕ) (t : Float) → held_to top t ≤ top
-unfolding held_to
-held_le top nan = omega arith
-held_le top (inf true) = omega arith
-held_le top (inf false) = le_of_eq refl
-held_le top (fin true m e) = omega arith
-held_le top (fin false m e) = min-le_left top (m * up e / down e)
 
 -- ---- one place more: the floor held to k, of the floor held to k - 1
 

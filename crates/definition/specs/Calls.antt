@@ -1,24 +1,21 @@
 -- THE PUBLIC OPERATIONS, whole: reply, record, weights, window, output, marks. A refusal leaves all as it was.
--- Each answer holds the outcome as the code's enum has it, and the reply: document 01's number and lengths for it.
+-- Each answer holds the outcome, as the code's `Result`, and the reply: document 01's number and lengths for it.
 -- Lists left as they were are equal as data: a NaN in them is a NaN again, and its payload is not spoken of (Floats).
-use Rattle.std.specs.Prelude.{ℕ, ◌-◌, ◌*◌, ◌/◌, ◌%◌, Bool, cond, ◌&&◌, List, [], ◌∷◌, ◌++◌, length, eqb, Float, Ok, Err}
+use Rattle.std.specs.Prelude.{ℕ, ◌-◌, ◌*◌, ◌/◌, Bool, cond, ◌&&◌, List, [], ◌∷◌, ◌++◌, length, eqb, Float, Ok, Err}
 use Rattle.std.specs.Float.Ieee.{is_nan}
 use Rattle.types.specs.declared.EqParams.{EqParams}
 use Rattle.types.specs.declared.EqualizeState.{EqualizeState}
 use Rattle.types.specs.declared.Error.TheVariants.{Odd, Feedback, Taps, Window, MuCma, MuDd, Bandwidth, Record, Output, Marks}
 use Rattle.types.specs.Start.{start_state}
-use Rattle.definition.specs.Refusals.{Outcome, Fresh, reply_of, fresh_reply, Test, test, first_of}
+use Rattle.definition.specs.Refusals.{Outcome, Fresh, reply_of, Test, test, first_of}
 use Rattle.types.specs.Bits.{zero32}
 use Rattle.definition.specs.Floats.{max_freq, flush, clip}
+pub use Rattle.definition.specs.Slices.{even}
 use Rattle.definition.specs.Slices.{samples_of, zeros, start_weights}
 use Rattle.definition.specs.Gains.{phase_damping, gain_kp, gain_ki}
 use Rattle.definition.specs.Sample.{Equalizer, all_taps, with_running}
 use Rattle.definition.specs.Rules.{taps_fit, feedback_fits, mu_fits, bw_fits, rule_r1, rule_r2, rules}
 use Rattle.definition.specs.Run.{Run, run_def, written, symbol_parts, mark_byte}
-
--- a count of f32 that makes whole complex numbers
-abbrev pub even : ℕ → Bool
-even n = eqb (n % 2) 0
 
 -- ---- the start: what `new` and `reset` set; `start_state` (types) is the record then: count 0, `mse` 1, phase 0, freq 0
 
@@ -72,7 +69,7 @@ pub record NewAnswer : Type 0 where
   pub window : List Float
 
 abbrev pub new_answer : Fresh → List Float → List Float → NewAnswer
-new_answer a w h = record { answer = a; reply = fresh_reply a; weights = w; window = h }
+new_answer a w h = record { answer = a; reply = reply_of a; weights = w; window = h }
 
 unfoldable pub fresh_state : EqParams → EqualizeState
 fresh_state p = start_state p (gain_kp p.phase_bw phase_damping) (gain_ki p.phase_bw phase_damping)

@@ -119,6 +119,7 @@ scaled_c m e = complex (m *f e.re) (m *f e.im)
 unfoldable pub clip_c : C32 → Float → C32
 clip_c v l = complex (clip v.re l) (clip v.im l)
 
--- a·b: (a + bi)·(c + di) has the real part a·c − b·d and the imaginary part a·d + b·c; two products, one sum
+-- a·b: (a + bi)·(c + di) has the real part a·c − b·d and the imaginary part a·d + b·c; two products, one sum.
+-- The turns, the filter sum and the weights' step write their products out, as their sentences do, so that each is read alone.
 unfoldable pub times_c : C32 → C32 → C32
 times_c a b = complex (a.re *f b.re -f a.im *f b.im) (a.re *f b.im +f a.im *f b.re)

@@ -23,14 +23,9 @@ abbrev pub Fresh : Type 0
 Fresh = Result EqualizeState Error
 
 -- What a caller learns, as document 01's numbers: nothing where the call was served; else the refusal's number and its lengths.
-abbrev pub reply_of : Outcome → List ℕ
-reply_of (Ok u) = []
+abbrev pub reply_of : {A : Type 0} → Result A Error → List ℕ
+reply_of (Ok x) = []
 reply_of (Err e) = error_number e ∷ error_values e
-
--- the same of `new`
-abbrev pub fresh_reply : Fresh → List ℕ
-fresh_reply (Ok s) = []
-fresh_reply (Err e) = error_number e ∷ error_values e
 
 -- a test of a call: whether it is passed, and the refusal where it is not
 pub record Test : Type 0 where

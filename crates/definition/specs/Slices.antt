@@ -15,9 +15,13 @@ im_at x i = get_or x (2 * i + 1) nan
 abbrev pub complex_length : List Float → ℕ
 complex_length x = length x / 2
 
--- an even count of f32
+-- a count of f32 that makes whole complex numbers
+abbrev pub even : ℕ → Bool
+even n = eqb (n % 2) 0
+
+-- a slice of such a count
 abbrev pub whole : List Float → Bool
-whole x = eqb (length x % 2) 0
+whole x = even (length x)
 
 -- the complex numbers of a slice, in order
 unfoldable pub samples_of : List Float → List C32

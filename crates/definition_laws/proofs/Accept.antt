@@ -1,13 +1,13 @@
 -- The record rules as a record of facts, and what a sample leaves alone. Assumes nothing.
 use Prim.Native.Nat.{◌%◌, ◌≤◌}
 use mathlib.Core.Path.{◌≡◌, refl, sym, ◌∙◌, ap, subst}
-use mathlib.Core.Bool.{◌&&◌}
+use mathlib.Core.Bool.{true, ◌&&◌}
 use native.Mathlib.Omega.{arith}
 use lib.ListN.{length}
 use lib.Dec.{T, leb, eqb, leb→le, eqb→eq}
 use lib.Ieee.{Float, nan, inf, fin, binary32, fits, to_bits}
 use lib.Ieee.Fits.{and_i, and_l, and_r, round-fits, nan-fits, inf-fits}
-use lib.Ieee.Bits.{of_bits-to_bits}
+use lib.Ieee.Bits.{of_bits-to_bits, is_true}
 use lib.Ieee.{of_bits, down}
 use lib.Ieee.Scale.{finite}
 use Rattle.types.specs.declared.EqualizeState.{EqualizeState}
@@ -55,6 +55,13 @@ accepted_parts q t =
       freq = and_r (c && d) e cde;
       r4 = and_r (a && b && (c && d && e)) f abcf;
     }
+
+-- the same of the equation, as theorems and contracts have it
+pub accepted_is : (q : Equalizer) → accepted_def q ≡ true → Accepted q
+accepted_is q t = accepted_parts q (subst T (sym t) tt)
+
+pub accepted_r4 : (q : Equalizer) → accepted_def q ≡ true → rule_r4 q.state ≡ true
+accepted_r4 q t = is_true (rule_r4 q.state) (accepted_is q t).r4
 
 pub accepted_whole : (q : Equalizer) → Accepted q → T (accepted_def q)
 unfolding accepted_def rules rule_r3

@@ -1,20 +1,20 @@
 -- Each point is at most 2 in each part, cosine and sine are at most 4 in size, so what is fed back is finite. Assumes nothing.
 use Prim.Native.Nat.{ℕ, zero, suc, ◌+◌, ◌*◌, ◌/◌, ◌%◌, ◌^◌, ◌<◌, ◌≤◌}
-use mathlib.Core.Path.{◌≡◌, refl, sym, subst}
+use mathlib.Core.Path.{subst}
 use mathlib.Core.Logic.{inl, inr}
 use mathlib.Core.Bool.{Bool, true, false, cond}
 use mathlib.Core.List.{List, [], ◌∷◌}
-use native.Mathlib.Nat.{le_refl, mul-le-mul_right, zero-lt-suc, min-le_left}
+use native.Mathlib.Nat.{mul-le-mul_right, zero-lt-suc}
 use native.Mathlib.Omega.{arith}
 use lib.IntN.{pos}
 use lib.Count.{count_trailing_zeros}
-use lib.ListN.{length, get_or, get_or-eq_default}
+use lib.ListN.{get_or}
 use lib.Dec.{T, leb, eqb, leb→le, lit≤}
 use lib.Ieee.{Float, nan, inf, fin, binary32, up, down, of_bits, of_fields, odd, neg, lt, of_int}
 use lib.Ieee.Scale.{finite}
 use Rattle.laws.specs.Bound.{AtMost, Within, round_at_most, mul_at_most, within_add, within_sub, within_mul, within_mono, within_neg, power_held, at_most_finite, le_or_lt}
-use Rattle.tables.specs.Table.{cos_at, cos_bits}
-use Rattle.tables.proofs.Rules.{at_most_one}
+use Rattle.tables.specs.Table.{cos_at}
+use Rattle.tables.proofs.Rules.{past_end, at_most_one}
 use Rattle.types.specs.declared.C32.{C32}
 use Rattle.types.specs.declared.CosSin.{CosSin}
 use Rattle.types.specs.declared.Qam.{Qam}
@@ -25,8 +25,9 @@ use Rattle.types.specs.Bits.{f32, zero32, one32}
 use Rattle.definition.specs.Floats.{◌+f◌, ◌-f◌, ◌*f◌, complex, zero_c}
 use Rattle.definition.specs.Slices.{every}
 use Rattle.definition.specs.Phase.{low_part, line_at, interp_pair, cos_sin}
-use Rattle.definition.specs.Points.{A, C8, S8, side, points8, octant, octant_point, levels, held_to, level_of, level_at, qam_point, decide}
+use Rattle.definition.specs.Points.{A, C8, S8, side, points8, octant, octant_point, levels, level_of, level_at, qam_point, decide}
 use Rattle.definition.specs.Turns.{rotated}
+use Rattle.definition.proofs.Held.{held_le}
 use Rattle.definition_laws.proofs.Every.{every-at}
 
 -- ---- constants, by a computed test
@@ -102,14 +103,6 @@ octant_small : (z : C32) → Small (octant_point z)
 unfolding octant_point
 octant_small z = small_at points_small (octant z)
 
-held_le : (top : ℕ) (t : Float) → held_to top t ≤ top
-unfolding held_to
-held_le top nan = omega arith
-held_le top (inf true) = omega arith
-held_le top (inf false) = le_refl top
-held_le top (fin true m e) = omega arith
-held_le top (fin false m e) = min-le_left top (m * up e / down e)
-
 less : (a n : ℕ) → a ≤ n → a < suc n
 less a n h = omega arith
 
@@ -133,17 +126,10 @@ zero_unit = lit≤ tt
 
 -- beyond the table `cos_at` is +0
 cos_unit : (k : ℕ) → Within binary32 0 (cos_at k)
-unfolding cos_at
 cos_unit k = elim (le_or_lt 4097 k) [
-  | inl h ↦ subst (λ (n : ℕ). Within binary32 0 (of_bits binary32 n)) (sym (beyond k h)) zero_unit
+  | inl h ↦ subst (Within binary32 0) (past_end k h) zero_unit
   | inr h ↦ at_most_one k h
 ]
-  where
-    long : length cos_bits ≡ 4097
-    long = unfold cos_bits in refl
-
-    beyond : (k : ℕ) → 4097 ≤ k → get_or cos_bits k 0 ≡ 0
-    beyond k h = get_or-eq_default cos_bits 0 (subst (λ (n : ℕ). n ≤ k) (sym long) h)
 
 low_bits : (p : ℕ) → p % 1048576 ≤ 2 ^ 20
 low_bits p = omega arith

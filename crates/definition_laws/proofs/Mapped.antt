@@ -1,19 +1,20 @@
 -- Loops over slices of floats. Assumes nothing.
 --     Mapped f old n l            a loop that goes up has replaced the first n elements of old
---     mapped-none, mapped-more    before the first store; a store at n
+--     mapped_none, mapped-more    before the first store; a store at n
 --     mapped-read                 what stands from n on is old's
---     part-even, part-odd         the parts of complex number i
---     shift-list, clear-all, start_is   shift, zeros, start weights
+--     part_even, part_odd         the parts of complex number i
+--     tabulate_take               the first n elements of a list
+--     shift_list, start_is        shift, start weights
 use Prim.Native.Nat.{ℕ, zero, suc, ◌+◌, ◌-◌, ◌*◌, ◌/◌, ◌%◌, ◌<◌, ◌≤◌}
 use mathlib.Core.Path.{◌≡◌, refl, sym, ◌∙◌, ap}
-use mathlib.Core.List.{List, [], ◌∷◌, ◌++◌, append-nil}
+use mathlib.Core.List.{List, ◌∷◌, ◌++◌}
 use native.Mathlib.Omega.{arith}
 use native.Mathlib.Numerals.{add-one}
-use lib.ListN.{length, get_or, set, take, drop, drop_of_length-le}
+use lib.ListN.{length, get_or, set, take, drop}
 use lib.Seq.{take-suc, drop-cons, set_at, append_snoc, get_or-append-add, get_or-drop}
 use lib.Ieee.{Float, nan}
 use Rattle.types.specs.declared.C32.{C32}
-use Rattle.types.specs.Bits.{zero32, one32}
+use Rattle.types.specs.Bits.{one32}
 use Rattle.definition.specs.Slices.{shifted, zeros, part, tabulate, start_weights}
 use Rattle.definition_laws.proofs.Every.{length_tabulate}
 
@@ -67,21 +68,6 @@ pub shift_list : (n : ℕ) (v : C32) (old buf : List Float) → 2 * n ≤ length
 unfolding shifted
 shift_list n v old buf h m =
     m.is ∙ ap (λ (t : List Float). t ++ drop (2 * n) old) (tabulate_take (v.re ∷ v.im ∷ old) (2 * n) (omega arith))
-
--- all +0
-tabulate_zeros : (n : ℕ) → tabulate n (λ q. zero32) ≡ zeros n
-unfolding tabulate
-tabulate_zeros zero = refl
-tabulate_zeros (suc n) = ap (λ (l : List Float). l ++ zero32 ∷ []) (tabulate_zeros n) ∙ snoc n
-  where
-    snoc : (n : ℕ) → zeros n ++ zero32 ∷ [] ≡ zeros (suc n)
-    snoc zero = refl
-    snoc (suc n) = ap (λ (l : List Float). zero32 ∷ l) (snoc n)
-
-pub clear_all : (old l : List Float) (i : ℕ) → length old ≤ i → i ≤ length old → Mapped (λ q. zero32) old i l → l ≡ zeros (length old)
-clear_all old l i h g m =
-    let e : i ≡ length old = omega arith in
-    m.is ∙ rw (drop_of_length-le old {i = i} h, append-nil, e) (tabulate_zeros (length old))
 
 -- the start weights
 pub start_is : (n c : ℕ) (w z : List Float) → length w ≡ 2 * n → z ≡ zeros (length w) → set z (2 * c) one32 ≡ start_weights n c

@@ -15,10 +15,6 @@ use Rattle.types.specs.Bits.{zero32}
 use Rattle.definition.specs.Floats.{tiny, max_freq, abs, flush, clip}
 use Rattle.definition.specs.Rules.{plus_zero, weight_fits, freq_fits}
 
-pub is_false : (b : Bool) → (T b → ⊥) → b ≡ false
-is_false true n = absurd (n tt)
-is_false false n = refl
-
 -- ---- +0
 
 zero_plus : T (plus_zero zero32)

@@ -1,13 +1,12 @@
 -- How far a loop over the slices of a block has come: what is written, with what the samples that are left will give, is the block's outcome. Assumes nothing.
 use Prim.Native.Nat.{ℕ, suc, ◌+◌, ◌<◌, ◌≤◌}
-use mathlib.Core.Path.{◌≡◌, refl, sym, ◌∙◌, ap, subst}
+use mathlib.Core.Path.{◌≡◌, refl, sym, ◌∙◌, ap}
 use mathlib.Core.Bool.{true}
 use mathlib.Core.List.{List, [], ◌∷◌, ◌++◌, append_assoc, append-nil}
 use native.Mathlib.Numerals.{add-one}
 use native.Mathlib.Omega.{arith}
 use lib.ListN.{length, take, drop, get_or, set, length-set, drop_of_length-le}
 use lib.Seq.{take-suc-set, take_all, drop-cons}
-use lib.Dec.{T}
 use lib.Ieee.{Float, nan}
 use lib.Ieee.Bits.{is_true}
 use Rattle.types.specs.declared.C32.{C32}
@@ -18,7 +17,7 @@ use Rattle.definition.specs.Sample.{Equalizer, Did, Out, sample_def}
 use Rattle.definition.specs.Packed.{Ran}
 use Rattle.definition.specs.Rules.{accepted_def}
 use Rattle.definition.specs.Run.{Run, ahead, run_def, written, symbol_parts, mark_byte}
-use Rattle.definition_laws.proofs.Accept.{accepted_parts, accepted_whole}
+use Rattle.definition_laws.proofs.Accept.{accepted_is, accepted_whole}
 use Rattle.definition_laws.proofs.Kept.{sample_accepted}
 use Rattle.definition_laws.proofs.Runs.{written_append, written_one}
 
@@ -37,7 +36,7 @@ samples_cons xs k h =
 pub accepted_after : (q : Equalizer) (x : C32) (d : Did) → d ≡ sample_def q x → accepted_def q ≡ true → accepted_def d.equalizer ≡ true
 accepted_after q x d e t =
     ap (λ (x : Did). accepted_def x.equalizer) e
-    ∙ is_true (accepted_def (sample_def q x).equalizer) (accepted_whole _ (sample_accepted q x (accepted_parts q (subst T (sym t) tt))))
+    ∙ is_true (accepted_def (sample_def q x).equalizer) (accepted_whole _ (sample_accepted q x (accepted_is q t)))
 
 -- a run by its first sample
 pub run_cons : (q : Equalizer) (x : C32) (rest : List C32) (d : Did) → d ≡ sample_def q x → run_def q (x ∷ rest) ≡ ahead (d.out ∷ []) (run_def d.equalizer rest)

@@ -21,7 +21,7 @@ use Rattle.definition.specs.Slices.{shifted, zeros}
 use Rattle.definition.specs.Sample.{Equalizer, Did, Out, feedback, forward, never_switch, sanitized, step1, step3, fed_in, with_mode, advance_in, advance, step8, sample_def}
 use Rattle.definition.specs.Rules.{count_fits, rule_r4, TapCounts}
 use Rattle.definition.specs.Run.{Run, ahead, run_def}
-use Rattle.definition_laws.proofs.Accept.{Accepted, accepted_parts, shape}
+use Rattle.definition_laws.proofs.Accept.{Accepted, accepted_is, shape}
 use Rattle.definition_laws.proofs.Kept.{advance_keeps, sample_accepted}
 use Rattle.std.proofs.lemmas.Bool.{and_parts}
 use Rattle.demands.specs.Blanks.{all_blank, blank_out, count_after, mode_at, window_after, BlankRun, BlanksClaim, ClearClaim}
@@ -53,9 +53,6 @@ take_inner : (n : ℕ) (x y : List Float) → take n (x ++ take n y) ≡ take n 
 take_inner n x y = take_more n n x y (omega arith)
 
 -- two zeros shifted into a window of a forward part A and a feedback part B
-two_more : (n : ℕ) (x : List Float) → 2 * n ≤ length x → 2 * n ≤ suc (suc (length x))
-two_more n x h = omega arith
-
 module _ (q : Equalizer) (A B : List Float) (a : length A ≡ 2 * forward q) (b : length B ≡ 2 * feedback q) where
   shift-forward : shifted (forward q) zero_c (A ++ B) ≡ take (2 * forward q) (zero32 ∷ zero32 ∷ A) ++ B
   unfolding shifted
@@ -212,7 +209,7 @@ after_blanks (suc k) q (x ∷ xs) a l b =
     (blank_more q k (run_def (blanked q) xs) a (after_blanks k (blanked q) xs a' (less_one (length xs) k l) f.1))
 
 pub blanks_claim : BlanksClaim
-blanks_claim q k xs a b = after_blanks k q xs (accepted_parts q (subst T (sym a) tt)) b.many b.each
+blanks_claim q k xs a b = after_blanks k q xs (accepted_is q a) b.many b.each
 
 -- ---- a window that is cleared
 
@@ -227,7 +224,7 @@ clear_part n k x h =
 
 pub clear_claim : ClearClaim
 clear_claim q n a h =
-    let z = shape q (accepted_parts q (subst T (sym a) tt)) in
+    let z = shape q (accepted_is q a) in
     let e : 2 * forward q + 2 * feedback q ≡ length q.window = omega (arith, z.sum, z.window) in
     rw (clear_part (forward q) n (take (2 * forward q) q.window) (omega arith), clear_part (feedback q) n (drop (2 * forward q) q.window) (omega arith))
     (replicate-append-replicate (2 * forward q) (2 * feedback q) zero32 ∙ ap zeros e)

@@ -10,14 +10,11 @@ use Rattle.definition.specs.Slices.{samples_of}
 use Rattle.definition.specs.Sample.{Equalizer}
 use Rattle.definition.specs.Rules.{rules}
 use Rattle.definition.specs.Run.{Run, run_def, written, symbol_parts, mark_byte}
-use Rattle.definition.specs.Calls.{lengths_of, verdict_def, Answer, answer_by, equalize_def}
+use Rattle.definition.specs.Calls.{lengths_of, verdict_def, Answer, answer_by}
 use Rattle.definition_laws.proofs.Runs.{run_append, written_append}
-use Rattle.demands.specs.Traces.{Call, call_def, Observed, Follow, none, next, samples, symbols, marks, left}
+use Rattle.definition_laws.proofs.Verdicts.{answered_by}
+use Rattle.demands.specs.Traces.{Observed, Follow, none, next, samples, symbols, marks, left}
 use Rattle.demands.specs.Cut.{OneRun, CallsAreOneRun, AnyCut}
-
-by_verdict : (q : Equalizer) (c : Call) → call_def q c ≡ answer_by (verdict_def (rules q) (lengths_of q c.input c.output c.marks)) q c.input c.output c.marks
-unfolding equalize_def
-by_verdict q c = refl
 
 module _ (q : Equalizer) (o : Observed) (os : List Observed) where
   -- the first call by its answer, and the law for the later ones
@@ -46,7 +43,7 @@ pub calls_are_one_run : CallsAreOneRun
 unfolding samples symbols marks left run_def written
 calls_are_one_run q [] none = record { symbols = refl; marks = refl; left = refl }
 calls_are_one_run q (o ∷ os) (next b l p f) =
-    first q o os (verdict_def (rules q) (lengths_of q o.call.input o.call.output o.call.marks)) (p ∙ by_verdict q o.call)
+    first q o os (verdict_def (rules q) (lengths_of q o.call.input o.call.output o.call.marks)) (p ∙ answered_by q o.call.input o.call.output o.call.marks)
     (calls_are_one_run o.answer.equalizer os f)
 
 pub any_cut : AnyCut

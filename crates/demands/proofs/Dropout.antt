@@ -6,7 +6,6 @@ use mathlib.Core.List.{List, [], ◌∷◌, ◌++◌}
 use native.Mathlib.Omega.{arith}
 use lib.ListN.{length, take, replicate, length-replicate}
 use lib.Seq.{length-take-le, take_at}
-use lib.Dec.{T}
 use lib.Ieee.{Float}
 use Rattle.types.specs.declared.C32.{C32}
 use Rattle.types.specs.declared.EqualizeState.{EqualizeState}
@@ -18,7 +17,7 @@ use Rattle.definition.specs.Slices.{zeros}
 use Rattle.definition.specs.Sample.{Equalizer, Out, feedback, forward, with_mode}
 use Rattle.definition.specs.Rules.{accepted_def}
 use Rattle.definition.specs.Run.{Run, ahead, run_def, written, symbol_parts, mark_byte}
-use Rattle.definition_laws.proofs.Accept.{accepted_parts, shape}
+use Rattle.definition_laws.proofs.Accept.{accepted_is, shape}
 use Rattle.definition_laws.proofs.Runs.{run_append, written_append}
 use Rattle.std.proofs.lemmas.Bool.{and_parts, and_from}
 use Rattle.demands.specs.Traces.{Observed, Follow, samples, symbols, marks, left}
@@ -101,8 +100,8 @@ same_equalizer_lem p q s w h = λ i. record { state = s i; weights = w i; window
 module _ (p q : Equalizer) (os ps : List Observed) (n : ℕ) (bs es stream : List C32) (d : Dropout p q os ps n bs es stream) where
   lengths : length p.window ≡ length q.window
   lengths =
-      (shape p (accepted_parts p (subst T (sym d.accepted_p) tt))).window ∙ ap (λ (w : List Float). 2 * (length w / 2)) d.weights
-      ∙ sym (shape q (accepted_parts q (subst T (sym d.accepted_q) tt))).window
+      (shape p (accepted_is p d.accepted_p)).window ∙ ap (λ (w : List Float). 2 * (length w / 2)) d.weights
+      ∙ sym (shape q (accepted_is q d.accepted_q)).window
 
   enough-q : max (forward q) (feedback q) ≤ n
   enough-q = rw (d.states, d.weights) at d.enough

@@ -28,10 +28,10 @@ use Rattle.types.specs.Start.{start_mode, start_state}
 use Rattle.definition.specs.Calls.{start_over, fresh_state, new_tests, new_verdict, new_by, new_def, reset_verdict, reset_by, reset_def, with_params, with_mus, SetAnswer, set_answer, set_mu_cma_def, set_mu_dd_def, held_freq, set_frequency_def}
 use Rattle.definition_laws.proofs.Every.{every-replicate, length_start}
 use Rattle.definition_laws.proofs.Parts.{finite_zero, zero_freq_fits, freq_fits_lem}
-use Rattle.definition_laws.proofs.Accept.{Accepted, accepted_parts, accepted_whole}
+use Rattle.definition_laws.proofs.Accept.{Accepted, accepted_is, accepted_whole}
 use Rattle.definition_laws.proofs.Kept.{start_fits}
 use Rattle.std.proofs.lemmas.Bool.{and_parts}
-use Rattle.definition_laws.proofs.Verdicts.{fine, refused_not}
+use Rattle.definition_laws.proofs.Verdicts.{ok_no_err, fine}
 use Rattle.demands.specs.Demand1.{with_state, OthersAccepted, OthersRefused, SettersMove}
 
 -- ---- R2 in its five parts
@@ -113,16 +113,13 @@ start_r2 p x y z = r2_whole _ (unfold start_state in (record { cma = x; dd = y; 
 
 -- ---- new
 
-not_made : (e : Error) (s : EqualizeState) → Err e ≡ Ok s → ⊥
-not_made e s h = let z : ◌≡◌ {A = ℕ} 0 1 = cc in omega arith
-
 made_is : (s t : EqualizeState) → ◌≡◌ {A = Fresh} (Ok s) (Ok t) → s ≡ t
 made_is s t h = cc
 
 new_by_lem : (p : EqParams) (w h : List Float) (s : EqualizeState) (v : Outcome) → new_verdict p (length w) (length h) ≡ v → (new_by v p w h).answer ≡ Ok s
     → accepted_def (record { state = s; weights = (new_by v p w h).weights; window = (new_by v p w h).window }) ≡ true
 unfolding new_verdict new_tests
-new_by_lem p w h s (Err e) v m = absurd (not_made e s m)
+new_by_lem p w h s (Err e) v m = absurd (ok_no_err s e (sym m))
 new_by_lem p w h s (Ok tt) v m =
     let a = fine _ _ _ v in
     let b = fine _ _ _ a.1 in
@@ -136,14 +133,14 @@ new_by_lem p w h s (Ok tt) v m =
     (unfold fresh_state in (start-accepted p (gain_kp p.phase_bw phase_damping) (gain_ki p.phase_bw phase_damping) (length w / 2) b.0 c.0 (start_r2 p e.0 f.0 g.0)))
 
 new_kept : (p : EqParams) (w h : List Float) (e : Error) (v : Outcome) → (new_by v p w h).answer ≡ Err e → ((new_by v p w h).weights ≡ w) × ((new_by v p w h).window ≡ h)
-new_kept p w h e (Ok tt) m = absurd (not_made e _ (sym m))
+new_kept p w h e (Ok tt) m = absurd (ok_no_err _ e m)
 new_kept p w h e (Err x) m = (refl, refl)
 
 -- ---- reset
 
 reset_by_lem : (q : Equalizer) (v : Outcome) → reset_verdict q ≡ v → (reset_by v q).outcome ≡ (Ok tt) → accepted_def (reset_by v q).equalizer ≡ true
 unfolding reset_verdict
-reset_by_lem q (Err e) v m = absurd (refused_not e (sym m))
+reset_by_lem q (Err e) v m = absurd (ok_no_err tt e (sym m))
 reset_by_lem q (Ok tt) v m =
     let a = fine _ _ _ v in
     let b = fine _ _ _ a.1 in
@@ -154,7 +151,7 @@ reset_by_lem q (Ok tt) v m =
     start-accepted s.params s.kp s.ki (all_taps q) two.0 two.1 (unfold rule_r2 start_state in r.1)
 
 reset_kept : (q : Equalizer) (e : Error) (v : Outcome) → (reset_by v q).outcome ≡ Err e → (reset_by v q).equalizer ≡ q
-reset_kept q e (Ok tt) m = absurd (refused_not e m)
+reset_kept q e (Ok tt) m = absurd (ok_no_err tt e m)
 reset_kept q e (Err x) m = refl
 
 -- ---- the setters
@@ -174,7 +171,7 @@ changed q t a fb cma gains freq m n = is_true _ (accepted_whole (with_state q t)
 
 module _ (q : Equalizer) (mu : Float) (t : accepted_def q ≡ true) where
   parts : Accepted q
-  parts = accepted_parts q (passes _ t)
+  parts = accepted_is q t
 
   two : R2Parts q.state
   two = r2_parts q.state (is_true _ parts.r2)
@@ -206,7 +203,7 @@ held_fits (fin s m e) = freq_fits_lem (fin s m e) tt
 
 set_freq : (q : Equalizer) (v : Float) → accepted_def q ≡ true → accepted_def (with_state q (set_frequency_def q.state v)) ≡ true
 unfolding set_frequency_def
-set_freq q v t = let a = accepted_parts q (passes _ t) in changed q (set_frequency_def q.state v) a refl refl (unfold rule_r2 in (is_true _ a.r2)) (held_fits v) refl refl
+set_freq q v t = let a = accepted_is q t in changed q (set_frequency_def q.state v) a refl refl (unfold rule_r2 in (is_true _ a.r2)) (held_fits v) refl refl
 
 pub others_accepted : OthersAccepted
 unfolding new_def reset_def
@@ -220,12 +217,12 @@ others_accepted = record {
 
 -- the record of a setter, by its test
 set_kept : (b : Bool) (s t : EqualizeState) (e x : Error) → (cond b (set_answer (Ok tt) t) (set_answer (Err x) s)).outcome ≡ Err e → (cond b (set_answer (Ok tt) t) (set_answer (Err x) s)).state ≡ s
-set_kept true s t e x m = absurd (refused_not e m)
+set_kept true s t e x m = absurd (ok_no_err tt e m)
 set_kept false s t e x m = refl
 
 set_moved : (b : Bool) (s t : EqualizeState) (x : Error) → (cond b (set_answer (Ok tt) t) (set_answer (Err x) s)).outcome ≡ (Ok tt) → (cond b (set_answer (Ok tt) t) (set_answer (Err x) s)).state ≡ t
 set_moved true s t x m = refl
-set_moved false s t x m = absurd (refused_not x (sym m))
+set_moved false s t x m = absurd (ok_no_err tt x (sym m))
 
 pub others_refused : OthersRefused
 unfolding new_def reset_def set_mu_cma_def set_mu_dd_def

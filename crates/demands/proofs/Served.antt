@@ -1,13 +1,13 @@
 -- Demand 1, the marks, and which calls are served from an accepted start. Assumes nothing.
 use Prim.Native.Nat.{ℕ, zero, suc, ◌*◌, ◌/◌, ◌%◌}
-use mathlib.Core.Path.{◌≡◌, refl, sym, ◌∙◌, ap, subst}
+use mathlib.Core.Path.{◌≡◌, refl, ◌∙◌, ap}
 use mathlib.Core.Logic.{◌⊎◌, inl, inr}
 use mathlib.Core.Bool.{Bool, true, ◌&&◌}
 use mathlib.Core.List.{List, [], ◌∷◌}
 use native.Mathlib.Nat.{not-suc-le-zero, le_of_suc-le-suc}
 use native.Mathlib.Omega.{arith}
 use lib.ListN.{length}
-use lib.Dec.{T, eqb}
+use lib.Dec.{eqb}
 use lib.Ieee.{Float}
 use lib.Ieee.Bits.{is_true}
 use Rattle.types.specs.declared.C32.{C32}
@@ -20,17 +20,17 @@ use Rattle.definition.specs.Sample.{Equalizer, all_taps, forward, step1, step8, 
 use Rattle.definition.specs.Rules.{rules, accepted_def}
 use Rattle.definition.specs.Run.{run_def, written}
 use Rattle.definition.specs.Calls.{even, lengths_of, equalize_tests, verdict_def, answer_by, equalize_def}
-use Rattle.definition_laws.proofs.Accept.{accepted_parts, accepted_whole}
+use Rattle.definition_laws.proofs.Accept.{accepted_is, accepted_whole}
 use Rattle.definition_laws.proofs.Kept.{run_accepted}
 use Rattle.definition_laws.proofs.Exits.{stage-mark}
 use Rattle.definition_laws.proofs.Runs.{run_outs, symbols_length, marks_length, samples_length}
 use Rattle.std.proofs.lemmas.Bool.{and_parts}
-use Rattle.definition_laws.proofs.Verdicts.{served_fits}
+use Rattle.definition_laws.proofs.Verdicts.{outcome_is, served_fits}
 use Rattle.demands.specs.Demand1.{ServedCall, RefusedCall, Demand1, lengths_verdict, ByLengths, mark_given, EveryMark}
 
 -- an accepted equalizer stays accepted over a block
 pub run_fine : (q : Equalizer) (xs : List C32) → accepted_def q ≡ true → accepted_def (run_def q xs).equalizer ≡ true
-run_fine q xs a = is_true _ (accepted_whole (run_def q xs).equalizer (run_accepted q xs (accepted_parts q (subst T (sym a) tt))))
+run_fine q xs a = is_true _ (accepted_whole (run_def q xs).equalizer (run_accepted q xs (accepted_is q a)))
 
 twice_half : (n : ℕ) → n % 2 ≡ 0 → 2 * (n / 2) ≡ n
 twice_half n h = omega arith
@@ -54,14 +54,6 @@ unfolding equalize_def
 demand1 q xs ys ms = by_verdict q xs ys ms (verdict_def (rules q) (lengths_of q xs ys ms)) refl
 
 -- ---- from an accepted start the lengths decide
-
-outcome_is : (q : Equalizer) (xs ys : List Float) (ms : List ℕ) → (equalize_def q xs ys ms).outcome ≡ verdict_def (rules q) (lengths_of q xs ys ms)
-unfolding equalize_def
-outcome_is q xs ys ms = go (verdict_def (rules q) (lengths_of q xs ys ms))
-  where
-    go : (v : Outcome) → (answer_by v q xs ys ms).outcome ≡ v
-    go (Ok tt) = refl
-    go (Err e) = refl
 
 pub by_lengths : ByLengths
 unfolding accepted_def

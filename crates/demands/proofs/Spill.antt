@@ -22,7 +22,7 @@ use Rattle.definition.specs.Floats.{◌+f◌, ◌*f◌, zero_c, finite_c}
 use Rattle.definition.specs.Slices.{re_at, im_at, every, prod_re, prod_im, lane, lane_count, tree, sum8, filter_sum}
 use Rattle.definition.specs.Sample.{all_taps, forward, sanitized, step1, step2}
 use Rattle.definition_laws.proofs.Every.{every-at, every-shifted}
-use Rattle.definition_laws.proofs.Accept.{accepted_parts, shape}
+use Rattle.definition_laws.proofs.Accept.{accepted_is, shape}
 use Rattle.definition_laws.proofs.Kept.{step1_length}
 use Rattle.demands.specs.NoSpill.{up_to, NoSpill}
 
@@ -145,7 +145,7 @@ sanitized_up_to b x r i = go (finite_c x)
 pub no_spill : NoSpill
 unfolding step2 filter_sum finite_c
 no_spill q x a b k acc taps bound w h r i =
-    let z = shape q (accepted_parts q (passes _ acc)) in
+    let z = shape q (accepted_is q acc) in
     let o = sanitized_up_to b x (passes _ r) (passes _ i) in
     let g = step1 (forward q) x q.window in
     let n = all_taps q in

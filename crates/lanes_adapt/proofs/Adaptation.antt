@@ -1,12 +1,12 @@
 -- The three exits of `update_split`. Assumes nothing.
 use Prim.Native.Nat.{ℕ, ◌+◌, ◌-◌, ◌*◌, ◌/◌, ◌%◌, ◌<◌, ◌≤◌}
-use mathlib.Core.Path.{◌≡◌, refl, sym, ◌∙◌}
+use mathlib.Core.Path.{◌≡◌, refl, sym, ◌∙◌, subst}
 use mathlib.Core.Bool.{Bool, true, false, ◌||◌}
 use mathlib.Core.List.{List}
 use native.Mathlib.Omega.{arith}
 use native.Mathlib.Nat.{le_of_eq}
 use native.Mathlib.Decide.{ℕ_discrete, dec_lt}
-use Rattle.std.proofs.lemmas.Bool.{both_ways, or_parts}
+use Rattle.std.proofs.lemmas.Bool.{both_ways, false_from_ne_true, or_parts}
 use lib.ListN.{length, get_or, set, replicate, length-set, length-replicate, get_or-replicate}
 use lib.Seq.{get_or-set_same, get_or-set_other}
 use lib.Dec.{T}
@@ -18,7 +18,6 @@ use Rattle.types.specs.Bits.{zero32, one32}
 use Rattle.definition.specs.Floats.{complex}
 use Rattle.definition.specs.Slices.{updated, every, start_weights}
 use Rattle.definition.specs.Sample.{adapted, reset_unless}
-use Rattle.definition_laws.proofs.Parts.{is_false}
 use Rattle.definition_laws.proofs.Every.{length_updated, length_start}
 use Rattle.lanes.specs.Between.{Replaced}
 use Rattle.lanes.specs.Holds.{Lies, Half, Weights}
@@ -128,7 +127,7 @@ module _ (wr wi limit xr xi : List Float) (at lanes bt more centre : ℕ) (gr gi
       -- a weight is not finite
       not_every : ruined wr' wi' limit ≡ true → every finite new ≡ false
       unfolding ruined
-      not_every z = is_false _ (λ t. both_ways _ (none_any _ 144 (λ k l. lane t k l (dec_lt k 72))) z)
+      not_every z = false_from_ne_true _ (λ e. both_ways _ (none_any _ 144 (λ k l. lane (subst T (sym e) tt) k l (dec_lt k 72))) z)
         where
           lane : T (every finite new) → (k : ℕ) → k < 144 → Dec (k < 72) → broken_at (get_or wr' k nan) (get_or wi' k nan) (get_or limit k nan) ≡ false
           lane t k l (yes q) =
