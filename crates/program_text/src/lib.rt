@@ -1,4 +1,4 @@
-// Text on its way out: bytes, numbers and entries of lists laid on a page. What is not promised: the digits of a float, what is sent.
+// Text on its way out: bytes, numbers and entries of lists laid on a page. What is not promised: the digits of a float.
 #![tactic(auto)]
 
 pub mod text;
