@@ -1,10 +1,10 @@
 -- One sample: the pieces put together. Assumes nothing.
 use Prim.Native.Nat.{ℕ, ◌-◌, ◌*◌, ◌/◌, ◌≤◌, min}
-use mathlib.Core.Path.{◌≡◌, refl, sym, ◌∙◌, ap, subst}
+use mathlib.Core.Path.{◌≡◌, refl, sym, ◌∙◌, subst}
 use mathlib.Core.Bool.{Bool, true, false}
-use mathlib.Core.List.{List, ◌++◌}
+use mathlib.Core.List.{List}
 use native.Mathlib.Omega.{arith}
-use lib.ListN.{length, take, drop}
+use lib.ListN.{length}
 use lib.Dec.{T}
 use lib.Ieee.{Float}
 use lib.Ieee.Bits.{is_true}
@@ -14,10 +14,10 @@ use Rattle.types.specs.declared.EqualizeState.{EqualizeState}
 use Rattle.types.specs.declared.Mark.TheVariants.{Blank, Spilled}
 use Rattle.types.specs.Bits.{zero32}
 use Rattle.definition.specs.Floats.{finite_c}
-use Rattle.definition.specs.Slices.{shifted, dot_complex, power}
+use Rattle.definition.specs.Slices.{dot_complex, power}
 use Rattle.definition.specs.Phase.{cos_sin}
 use Rattle.definition.specs.Packed.{equalizer}
-use Rattle.definition.specs.Sample.{sanitized, step1, step2, mu_of, step_size, update_of, adapted, tracked, hear, heard_as, step3, fed_in, step8, sample_def}
+use Rattle.definition.specs.Sample.{step2, mu_of, step_size, update_of, adapted, tracked, hear, heard_as, step3}
 use Rattle.definition.specs.Sample as sample
 use Rattle.definition.specs.Rules.{rule_r4, accepted_def}
 use Rattle.definition_laws.proofs.Accept.{Accepted, accepted_parts, shape}
@@ -25,8 +25,7 @@ use Rattle.plain.specs.declared.counts.Taps.{Taps}
 use Rattle.plain.specs.Taps.{Beside}
 use Rattle.steps.specs.declared.Stepped.{Stepped}
 use Rattle.steps.specs.declared.Stage.{Stage}
-use Rattle.steps.specs.declared.Sampled.{Sampled}
-use Rattle.steps.specs.Step.{track_of, update_if, step_at, step_with, heard_of, unheard_of, stage, sampled_of, did}
+use Rattle.steps.specs.Step.{track_of, update_if, step_at, step_with, heard_of, unheard_of, stage}
 
 -- ---- steps 4 to 7
 
@@ -63,25 +62,9 @@ module _ (s : EqualizeState) (w h : List Float) (x : C32) (t : Taps) (g : Beside
 
 -- ---- the whole sample
 
-step8_is : (s : EqualizeState) (f m : ℕ) (h1 v h2 : List Float) (r : Stage) (k : Sampled) → h2 ≡ take (2 * f) h1 ++ shifted m r.fed (drop (2 * f) h1) → k ≡ sampled_of s r → did k v h2 ≡ step8 f m h1 (stage s r v)
-unfolding step8 fed_in
-step8_is s f m h1 v h2 r k d e = rw (e, d)
-
-module _ (s : EqualizeState) (w h : List Float) (x : C32) (t : Taps) (z : Beside s w h t) where
-  pub sample_is : (st : C32) (h1 v h2 : List Float) (r : Stage) (k : Sampled) → st ≡ sanitized x → h1 ≡ shifted t.forward st h
-      → stage s r v ≡ step3 s w t.all t.forward x h1 (step2 t.all w h1) → h2 ≡ take (2 * t.forward) h1 ++ shifted (t.all - t.forward) r.fed (drop (2 * t.forward) h1)
-      → k ≡ sampled_of s r → did k v h2 ≡ sample_def (equalizer s w h) x
-  unfolding sample_def
-  sample_is st h1 v h2 r k a b e d j =
-      let n = t.all in
-      let f = t.forward in
-      let m = s.params.feedback_taps in
-      let N : length w / 2 ≡ n = omega (arith, z.weights) in
-      let F : length w / 2 - m ≡ f = omega (arith, z.weights, z.sum) in
-      let M : n - f ≡ m = omega (arith, z.sum) in
-      let hh : h1 ≡ step1 f x h = unfold step1 in (b ∙ rw a) in
-      step8_is s f m h1 v h2 r k (rw M at d) j ∙ ap (step8 f m h1) e ∙ ap (λ (l : List Float). step8 f m l (step3 s w n f x l (step2 n w l))) hh
-      ∙ sym (rw (F, N))
+pub counted : (s : EqualizeState) (w h : List Float) (t : Taps) → Beside s w h t
+    → let m = s.params.feedback_taps in (length w / 2 ≡ t.all) × ((length w / 2 - m ≡ t.forward) × (t.all - t.forward ≡ m))
+counted s w h t z = (omega (arith, z.weights), (omega (arith, z.weights, z.sum), omega (arith, z.sum)))
 
 module _ (s : EqualizeState) (w h : List Float) (t : accepted_def (equalizer s w h) ≡ true) where
   accepted : Accepted (equalizer s w h)

@@ -58,6 +58,7 @@ fn feed(h: &mut [f32], taps: Taps, v: C32)
 }
 
 // Steps 1 to 8.
+#[tactic(auto, using(crate::proofs::OneSample::counted), unfolding(definition::specs::Sample::sample_def, definition::specs::Sample::step1, definition::specs::Sample::step8, definition::specs::Sample::fed_in))]
 fn sample_sized(s: EqualizeState, w: &mut [f32], h: &mut [f32], x: C32, taps: Taps) -> Sampled
     requires beside { Beside s w.old h.old taps }
     requires s_value { rule_r4 s ≡ true }

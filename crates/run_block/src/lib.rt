@@ -114,6 +114,7 @@ pub fn linear_state(
     let mut w = Weights::ZERO;
     let mut h = Window::ZERO;
     load_linear(&call, weights, window, &mut w, &mut h);
+    #[tactic(auto, using(crate::proofs::Call::asked_r4))]
     let s = linear_runs(state, &call, &mut w, &mut h, input, output, marks);
     store_linear(&call, weights, window, &w, &h);
     s

@@ -138,19 +138,17 @@ module _ (s : EqualizeState) (w h : List Float) (n m at : ℕ) (a : Arrays) (x :
         out = record { symbol = z j; mark = y j };
       }
 
-pub sampled_is : (s : EqualizeState) (g : Shape) (at : ℕ) (x : C32) (F ahead : Float) (limit wr wi xr xi sq wr' wi' xr' xi' sq' : List Float) (r : Stage) (k : Sampled)
-    → at ≤ 63 → rule_r4 s ≡ true → Takes s g at x F ahead limit (arrays wr wi xr xi sq) wr' wi' r
-    → xr' ≡ set xr (at + 152) r.fed.re → xi' ≡ set xi (at + 152) r.fed.im → sq' ≡ set sq (at + 152) (norm r.fed)
-    → k ≡ sampled_of s r → Samples s g at x F ahead limit (arrays wr wi xr xi sq) (arrays wr' wi' xr' xi' sq') k
-sampled_is s g at x F ahead limit wr wi xr xi sq wr' wi' xr' xi' sq' r k low r4 t er ei eq e =
-    let a = arrays wr wi xr xi sq in
-    let a' = arrays wr' wi' xr' xi' sq' in
-    let ab = absorbed t.update r.fed at g.quads g.mquads g.front g.centre limit wr wi xr xi sq wr' wi' xr' xi' sq' low t.adapts er ei eq in
+pub sampled_is : (s : EqualizeState) (g : Shape) (at : ℕ) (x : C32) (F ahead : Float) (limit : List Float) (a a' : Arrays) (r : Stage) (k : Sampled)
+    → at ≤ 63 → rule_r4 s ≡ true → Takes s g at x F ahead limit a a'.wr a'.wi r
+    → a'.xr ≡ set a.xr (at + 152) r.fed.re → a'.xi ≡ set a.xi (at + 152) r.fed.im → a'.q ≡ set a.q (at + 152) (norm r.fed)
+    → k ≡ sampled_of s r → Samples s g at x F ahead limit a a' k
+sampled_is s g at x F ahead limit a a' r k low r4 t er ei eq e =
+    let ab = absorbed t.update r.fed at g.quads g.mquads g.front g.centre limit a.wr a.wi a.xr a.xi a.q a'.wr a'.wi a'.xr a'.xi a'.q low t.adapts er ei eq in
     rw e
     (record {
       front = record {
-        re = λ i b. rw er (get_or-set_other xr (at + 152) i r.fed.re nan (λ (z : i ≡ at + 152). omega arith));
-        im = λ i b. rw ei (get_or-set_other xi (at + 152) i r.fed.im nan (λ (z : i ≡ at + 152). omega arith));
+        re = λ i b. rw er (get_or-set_other a.xr (at + 152) i r.fed.re nan (λ (z : i ≡ at + 152). omega arith));
+        im = λ i b. rw ei (get_or-set_other a.xi (at + 152) i r.fed.im nan (λ (z : i ≡ at + 152). omega arith));
       };
       counts = advanced_r4 (with_track s r.track) (unfold rule_r4 in r4);
       track = r.track;

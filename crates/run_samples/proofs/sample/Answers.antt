@@ -4,4 +4,4 @@ use Rattle.run_samples.proofs.sample.Goals as goal
 
 pub returns : goal.returns
 returns c =
-    sampled_is _ _ _ _ _ _ _ _ _ _ _ _ _ _ _ _ _ _ _ c.args.e.within c.requires c.take-r.ensures c.feed.ensures.re c.feed.ensures.im c.feed.ensures.squares c.sampled.ensures
+    sampled_is _ _ _ _ _ _ _ _ _ _ _ c.args.e.within c.requires c.take-r.ensures c.feed.ensures.re c.feed.ensures.im c.feed.ensures.squares c.sampled.ensures
