@@ -1,8 +1,8 @@
--- How far a pass over floats and bytes has come: what is stored so far, and the rest by the definition. Assumes nothing.
-use Rattle.std.proofs.Common.{◌≡◌, refl, sym, ap, ◌∙◌, ℕ, zero, suc, ◌+◌, ◌*◌, ◌/◌, ◌%◌, ◌<◌, ◌≤◌, min, List, [], ◌∷◌, ◌++◌, append_assoc, length, get_or, take, drop, drop-cons, drop-drop, set, length-append, length-drop, take-append-drop, arith}
+-- How far a pass over floats and bytes has come: what is stored so far, and the rest by the definition. `reading` and `writing` are what the two passes go by. Assumes nothing.
+use Rattle.std.proofs.Common.{◌≡◌, refl, sym, ap, ◌∙◌, ℕ, zero, suc, ◌+◌, ◌*◌, ◌/◌, ◌%◌, ◌<◌, ◌≤◌, min, List, [], ◌∷◌, ◌++◌, append_assoc, length, get_or, take, drop, drop-cons, drop-drop, set, length-append, length-drop, length-set, take-append-drop, arith}
 use Rattle.std.specs.Int.{w32, to_le_bytes}
 use Rattle.std.specs.Simd.{first_chunks}
-use Rattle.std.proofs.lemmas.List.{take_more_set, drop-set-lt, set-append_left}
+use Rattle.std.proofs.lemmas.List.{take_more_set, drop-set-lt, set-append_left, length-take, get_or-take}
 use Rattle.std.proofs.lemmas.Slice.{take-put_mid, drop-put_mid}
 use borrow.Rule.Slice.PartMut.{put_mid}
 use lib.Ieee.{Float, nan}
@@ -47,23 +47,24 @@ read_rest (a ∷ b ∷ []) (x ∷ xs) h = refl
 read_rest (a ∷ b ∷ c ∷ []) (x ∷ xs) h = refl
 read_rest (a ∷ b ∷ c ∷ d ∷ more) (x ∷ xs) h = absurd (omega arith)
 
--- xs are the floats that there is room for, rest those beyond
-module _ (bs : List ℕ) (old xs rest : List Float) (i : ℕ) (p : read_into bs old ≡ take i (xs ++ rest) ++ read_into (drop (4 * i) bs) (drop i (xs ++ rest))) where
-  -- one float more
-  pub read_more : 4 * i + 4 ≤ length bs → i < length xs → (v : Float) → v ≡ float_of (word_at bs i)
-      → read_into bs old ≡ take (i + 1) (set xs i v ++ rest) ++ read_into (drop (4 * (i + 1)) bs) (drop (i + 1) (set xs i v ++ rest))
-  unfolding read_into
-  read_more hb hx v e =
-      let all = xs ++ rest in
-      let h : i < length all = simp length-append (omega arith) in
-      let k : 4 * (i + 1) ≡ 4 * i + 4 = omega arith in
-      p ∙ rw (← set-append_left xs rest i v hx, four bs (4 * i) hb, next all i (i + 1) nan h (omega arith), k, take_more_set all i v h, drop-set-lt (i + 1) all i v (omega arith), append_assoc, e)
+-- xs are the floats that there is room for, rest those beyond: one float more
+pub read_more : (bs : List ℕ) (xs rest : List Float) (i : ℕ) (v : Float) → v ≡ float_of (word_at bs i) → 4 * i + 4 ≤ length bs → i < length xs
+    → take (i + 1) (set xs i v ++ rest) ++ read_into (drop (4 * (i + 1)) bs) (drop (i + 1) (set xs i v ++ rest)) ≡ take i (xs ++ rest) ++ read_into (drop (4 * i) bs) (drop i (xs ++ rest))
+unfolding read_into
+read_more bs xs rest i v e hb hx =
+    let all = xs ++ rest in
+    let h : i < length all = simp length-append (omega arith) in
+    let k : 4 * (i + 1) ≡ 4 * i + 4 = omega arith in
+    rw (← set-append_left xs rest i v hx, four bs (4 * i) hb, next all i (i + 1) nan h (omega arith), k, take_more_set all i v h, drop-set-lt (i + 1) all i v (omega arith), append_assoc, e)
 
-  -- and all that there are
-  pub read_all : min (length bs / 4) (length (xs ++ rest)) ≤ i → xs ++ rest ≡ read_into bs old
-  read_all h =
-      let r : min (length (drop (4 * i) bs) / 4) (length (drop i (xs ++ rest))) ≡ 0 = simp length-drop (omega arith) in
-      sym (p ∙ rw (read_rest (drop (4 * i) bs) (drop i (xs ++ rest)) r, take-append-drop))
+-- and all that there are
+pub read_all : (bs : List ℕ) (old xs rest : List Float) (i : ℕ) → read_into bs old ≡ take i (xs ++ rest) ++ read_into (drop (4 * i) bs) (drop i (xs ++ rest))
+    → min (length bs / 4) (length (xs ++ rest)) ≤ i → xs ++ rest ≡ read_into bs old
+read_all bs old xs rest i p h =
+    let r : min (length (drop (4 * i) bs) / 4) (length (drop i (xs ++ rest))) ≡ 0 = simp length-drop (omega arith) in
+    sym (p ∙ rw (read_rest (drop (4 * i) bs) (drop i (xs ++ rest)) r, take-append-drop))
+
+pub ruleset reading = (length-set, read_more, read_all)
 
 -- ---- bytes from floats
 
@@ -76,29 +77,30 @@ write_rest (x ∷ xs) (a ∷ b ∷ []) h = refl
 write_rest (x ∷ xs) (a ∷ b ∷ c ∷ []) h = refl
 write_rest (x ∷ xs) (a ∷ b ∷ c ∷ d ∷ more) h = absurd (omega arith)
 
-module _ (xs : List Float) (old bs : List ℕ) (i : ℕ) (p : write_over xs old ≡ take (4 * i) bs ++ write_over (drop i xs) (drop (4 * i) bs)) where
-  -- one float's bytes more
-  pub write-more : i < length xs → 4 * i + 4 ≤ length bs → (n : ℕ) → n ≡ 4 → (ws : List ℕ) → ws ≡ to_le_bytes w32 (pattern_of (get_or xs i nan))
-      → write_over xs old ≡ take (4 * (i + 1)) (put_mid (4 * i) n bs ws) ++ write_over (drop (i + 1) xs) (drop (4 * (i + 1)) (put_mid (4 * i) n bs ws))
-  unfolding write_over
-  write-more hx hb n four_of ws e =
-      let k : 4 * (i + 1) ≡ 4 * i + 4 = omega arith in
-      let room : 4 * i ≤ length bs = omega arith in
-      let l : length ws ≡ 4 = rw e in
-      let low : byte_of (pattern_of (get_or xs i nan)) 1 ≡ pattern_of (get_or xs i nan) % 256 = omega arith in
-      p ∙ rw (
-        k,
-        take-put_mid (4 * i) n bs ws (4 * i + 4) (omega arith) room,
-        drop-put_mid (4 * i) n bs ws (4 * i + 4) (omega arith) room (omega arith),
-        four bs (4 * i) hb,
-        next xs i (i + 1) nan hx (omega arith),
-        append_assoc,
-        e,
-        low,
-      )
+-- one float's bytes more
+pub write_more : (xs : List Float) (bs ws : List ℕ) (i n : ℕ) → i < length xs → 4 * i + 4 ≤ length bs → n ≡ 4 → ws ≡ to_le_bytes w32 (pattern_of (get_or xs i nan))
+    → take (4 * (i + 1)) (put_mid (4 * i) n bs ws) ++ write_over (drop (i + 1) xs) (drop (4 * (i + 1)) (put_mid (4 * i) n bs ws)) ≡ take (4 * i) bs ++ write_over (drop i xs) (drop (4 * i) bs)
+unfolding write_over
+write_more xs bs ws i n hx hb four_of e =
+    let k : 4 * (i + 1) ≡ 4 * i + 4 = omega arith in
+    let room : 4 * i ≤ length bs = omega arith in
+    let l : length ws ≡ 4 = rw e in
+    let low : byte_of (pattern_of (get_or xs i nan)) 1 ≡ pattern_of (get_or xs i nan) % 256 = omega arith in
+    rw (
+      k,
+      take-put_mid (4 * i) n bs ws (4 * i + 4) (omega arith) room,
+      drop-put_mid (4 * i) n bs ws (4 * i + 4) (omega arith) room (omega arith),
+      four bs (4 * i) hb,
+      next xs i (i + 1) nan hx (omega arith),
+      append_assoc,
+      e,
+      low,
+    )
 
-  -- and all that there are
-  pub write-all : min (length bs / 4) (length xs) ≤ i → bs ≡ write_over xs old
-  write-all h =
-      let r : min (length (drop (4 * i) bs) / 4) (length (drop i xs)) ≡ 0 = simp length-drop (omega arith) in
-      sym (p ∙ rw (write_rest (drop i xs) (drop (4 * i) bs) r, take-append-drop))
+-- and all that there are
+pub write_all : (xs : List Float) (old bs : List ℕ) (i : ℕ) → write_over xs old ≡ take (4 * i) bs ++ write_over (drop i xs) (drop (4 * i) bs) → min (length bs / 4) (length xs) ≤ i → bs ≡ write_over xs old
+write_all xs old bs i p h =
+    let r : min (length (drop (4 * i) bs) / 4) (length (drop i xs)) ≡ 0 = simp length-drop (omega arith) in
+    sym (p ∙ rw (write_rest (drop i xs) (drop (4 * i) bs) r, take-append-drop))
+
+pub ruleset writing = (length-take, get_or-take, write_more, write_all)

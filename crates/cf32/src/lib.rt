@@ -38,7 +38,7 @@ fn common(bytes: usize, room: usize) -> usize
 }
 
 // The floats of the bytes, as far as both go; the rest of x stays. A place for each, since nothing is known of x after a `zip` of its `iter_mut`.
-#[tactic(auto, using(crate::proofs::Passes::read_all))]
+#[tactic(auto, using(crate::proofs::Passes::reading))]
 pub fn floats(b: &[u8], x: &mut [f32])
     ensures { x.new ≡ read_into b.now x.old }
 {
@@ -49,6 +49,7 @@ pub fn floats(b: &[u8], x: &mut [f32])
 }
 
 // The bytes of the floats, as far as both go; the rest of b stays. A place for each, since nothing is known of b after its `as_chunks_mut`.
+#[tactic(auto, using(crate::proofs::Passes::writing))]
 pub fn bytes(x: &[f32], b: &mut [u8])
     ensures { b.new ≡ write_over x.now b.old }
 {
