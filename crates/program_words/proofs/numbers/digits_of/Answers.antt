@@ -1,4 +1,5 @@
 -- `program_words::numbers::digits_of` has the digits that the text starts with. Assumes nothing.
+-- By an answer: `grind` finds no proof with the library's laws for a `position` and a `fold` and `digits_are`.
 use Rattle.std.proofs.Common.{◌≡◌, ◌∙◌, ap, not, length, unwrap_or, rules}
 use Rattle.std.specs.List.{position, fold}
 use Rattle.std.proofs.lemmas.Iterator.{YieldsList-from_slice}

@@ -1,4 +1,5 @@
 -- `program_words::words::end_of` answers the place of the first such byte, or the end. Assumes nothing.
+-- By an answer: the search leaves a premise of the library's law for a `position` open.
 use Rattle.std.proofs.Common.{◌≡◌, ◌+◌, ◌∙◌, eqb, ap, arith, length, drop, unwrap_or, rules}
 use Rattle.std.specs.List.{position}
 use Rattle.std.proofs.lemmas.Iterator.{YieldsList-from_slice}

@@ -1,4 +1,5 @@
 -- `program_words::words::place` answers the word's place among the texts that blanks divide the list into. Assumes nothing.
+-- By an answer: `grind` stops at its limit of instances with the library's laws for a `position`, a `take` and a `split` and `place_is`.
 use Rattle.std.proofs.Common.{◌≡◌, eqb, ◌∙◌, rules}
 use Rattle.std.specs.List.{count_by}
 use Rattle.std.specs.Cmp.Lexicographic.{pointwise}

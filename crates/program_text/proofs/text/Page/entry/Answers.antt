@@ -1,4 +1,5 @@
 -- `program_text::text::Page::entry` writes the text of its number, or none. Assumes nothing.
+-- By an answer: the search leaves a premise of the library's law for an `nth` open.
 use Rattle.std.proofs.Common.{◌≡◌, ◌∙◌, ap, eqb, ℕ, Bor, Option, List, [], unwrap_or, option_map, rules, tests}
 use Rattle.std.specs.List.{slice_split, slice_get}
 use Rattle.std.proofs.lemmas.Iterator.Consumers.{nth_from_yields_List}
