@@ -15,6 +15,7 @@ use program::messages::Part::Words;
 use program::messages::Program;
 use program::{Status, arguments};
 use std::io::IsTerminal;
+use std::ops::Range;
 use types::EqualizeState;
 
 // The whole program, and its exit status.
@@ -32,13 +33,13 @@ pub fn served(rt: &HostRuntime) -> Status {
 // Reads the options of every run and tries them, then serves each.
 fn all(p: Program<'_>) -> Result<(), Status> {
     let count = arguments::count(p.rt);
-    each(p.rt, count, |at, end| tried(p, at, end))?;
-    each(p.rt, count, |at, end| run(p, at, end))
+    each(p.rt, count, |places| Run::read(p, places)?.tried())?;
+    each(p.rt, count, |places| Run::read(p, places)?.served())
 }
 
-// Takes a step with the arguments of every run, and stops at the first that is not served. There are no more runs than arguments. By their places: the system
-// is asked for one argument at a time, so that there is no slice to split at `--then`.
-fn each<F: Fn(usize, usize) -> Result<(), Status>>(
+// Takes a step with the places of the arguments of every run, and stops at the first that is not served. There are no more runs than arguments. By their
+// places: the system is asked for one argument at a time, so that there is no slice to split at `--then`.
+fn each<F: Fn(Range<usize>) -> Result<(), Status>>(
     rt: &HostRuntime,
     count: usize,
     step: F,
@@ -48,7 +49,7 @@ fn each<F: Fn(usize, usize) -> Result<(), Status>>(
     let mut at = 1;
     for _ in 0..count {
         let end = options::end_of(rt, at, count);
-        step(at, end)?;
+        step(at..end)?;
         if end >= count {
             break;
         }
@@ -57,66 +58,99 @@ fn each<F: Fn(usize, usize) -> Result<(), Status>>(
     Ok(())
 }
 
-fn read(p: Program<'_>, at: usize, end: usize) -> Result<Options, Status> {
-    options::read(p.rt, at, end).map_err(|f| {
-        report::fault(p, f);
-        Status::Usage
-    })
+// A run: its program, and its options.
+#[derive(Clone, Copy)]
+pub(crate) struct Run<'a> {
+    pub(crate) program: Program<'a>,
+    pub(crate) options: Options,
 }
 
-// A run that can begin. Help and the version always can.
-fn tried(p: Program<'_>, at: usize, end: usize) -> Result<(), Status> {
-    let o = read(p, at, end)?;
-    if o.about.is_none() {
-        Equalizer::new(p, &o)?;
+impl Run<'_> {
+    // The run of the arguments at some places.
+    fn read(program: Program<'_>, places: Range<usize>) -> Result<Run<'_>, Status> {
+        let options = options::read(program.rt, places).map_err(|f| {
+            report::fault(program, f);
+            Status::Usage
+        })?;
+        Ok(Run { program, options })
     }
-    Ok(())
-}
 
-fn run(p: Program<'_>, at: usize, end: usize) -> Result<(), Status> {
-    let o = read(p, at, end)?;
-    match o.about {
-        Some(about) => report::about(p, about),
-        None => Equalizer::new(p, &o)?.serve(p, &o),
+    // A run that can begin. Help and the version always can.
+    fn tried(&self) -> Result<(), Status> {
+        if self.options.about.is_none() {
+            self.equalizer()?;
+        }
+        Ok(())
     }
-}
 
-// Says in a line why a run is not served.
-fn ended(p: Program<'_>, status: Status, words: &[u8]) -> Result<(), Status> {
-    p.tell(&[Words(words)]);
-    Err(status)
-}
+    fn served(&self) -> Result<(), Status> {
+        match self.options.about {
+            Some(about) => report::about(self.program, about),
+            None => self.equalizer()?.serve(self),
+        }
+    }
 
-// Samples are neither typed in nor shown on a terminal, and standard output is one output.
-fn is_ready(p: Program<'_>, o: &Options) -> Result<(), Status> {
-    if o.input == Name::Standard && p.rt.stdin().is_terminal() {
-        return ended(
-            p,
-            Status::Usage,
-            b"samples come from --in FILE or standard input; see --help",
-        );
+    // Says in a line why it is not served.
+    fn ended(&self, status: Status, words: &[u8]) -> Result<(), Status> {
+        self.program.tell(&[Words(words)]);
+        Err(status)
     }
-    if o.output == Name::Standard && !o.ways.text && p.rt.stdout().is_terminal() {
-        return ended(
-            p,
-            Status::Usage,
-            b"symbols go to --out FILE or standard output, not to a terminal; see --help and --text",
-        );
+
+    // Samples are neither typed in nor shown on a terminal, and standard output is one output.
+    fn is_ready(&self) -> Result<(), Status> {
+        let Run { program, options } = *self;
+        if options.input == Name::Standard && program.rt.stdin().is_terminal() {
+            return self.ended(
+                Status::Usage,
+                b"samples come from --in FILE or standard input; see --help",
+            );
+        }
+        if options.output == Name::Standard
+            && !options.ways.text
+            && program.rt.stdout().is_terminal()
+        {
+            return self.ended(
+                Status::Usage,
+                b"symbols go to --out FILE or standard output, not to a terminal; see --help and --text",
+            );
+        }
+        let outputs = [Some(options.output), options.marks, options.curve];
+        if outputs
+            .iter()
+            .filter(|name| **name == Some(Name::Standard))
+            .count()
+            > 1
+        {
+            return self.ended(
+                Status::Usage,
+                b"two outputs cannot both be standard output; nothing was written",
+            );
+        }
+        Ok(())
     }
-    let outputs = [Some(o.output), o.marks, o.curve];
-    if outputs
-        .iter()
-        .filter(|name| **name == Some(Name::Standard))
-        .count()
-        > 1
-    {
-        return ended(
-            p,
-            Status::Usage,
-            b"two outputs cannot both be standard output; nothing was written",
-        );
+
+    // Its equalizer, where it can begin.
+    fn equalizer(&self) -> Result<Equalizer, Status> {
+        self.is_ready()?;
+        let mut weights = [0.0f32; MOST_PARTS];
+        let mut window = [0.0f32; MOST_PARTS];
+        let Run { program, options } = *self;
+        let parts = parts_of(&options);
+        let state = equalize_state::new(
+            &mut weights[..parts],
+            &mut window[..parts],
+            options.params,
+        ).map_err(|e| {
+            report::refused(program, e);
+            Status::Usage
+        })?;
+        Ok(Equalizer {
+            state: equalize_state::set_frequency(state, options.frequency),
+            weights,
+            window,
+            parts,
+        })
     }
-    Ok(())
 }
 
 // The most floats that the taps have, forward and feedback taps.
@@ -141,51 +175,31 @@ struct Equalizer {
 }
 
 impl Equalizer {
-    fn new(p: Program<'_>, o: &Options) -> Result<Equalizer, Status> {
-        is_ready(p, o)?;
-        let mut weights = [0.0f32; MOST_PARTS];
-        let mut window = [0.0f32; MOST_PARTS];
-        let parts = parts_of(o);
-        let state = equalize_state::new(
-            &mut weights[..parts],
-            &mut window[..parts],
-            o.params,
-        ).map_err(|e| {
-            report::refused(p, e);
-            Status::Usage
-        })?;
-        Ok(Equalizer {
-            state: equalize_state::set_frequency(state, o.frequency),
-            weights,
-            window,
-            parts,
-        })
-    }
-
-    fn serve(self, p: Program<'_>, o: &Options) -> Result<(), Status> {
+    fn serve(self, run: &Run<'_>) -> Result<(), Status> {
         let Equalizer {
             state,
             mut weights,
             mut window,
             parts,
         } = self;
-        let input = p.input(o.input).map_err(|_| Status::Failed)?;
-        let outputs = Outputs::open(p, o, &input).map_err(|_| Status::Failed)?;
+        let Run { program, options } = *run;
+        let input = program.input(options.input).map_err(|_| Status::Failed)?;
+        let outputs = Outputs::open(run, &input).map_err(|_| Status::Failed)?;
         let done = equalizer_stream::all(
-            o.ways,
-            outputs.files(p.rt, &input),
+            options.ways,
+            outputs.files(program.rt, &input),
             state,
             &mut weights[..parts],
             &mut window[..parts],
         );
         drop(input);
-        report::done(p, o, done);
+        report::done(run, done);
         if !done.is_whole() {
-            outputs.left(p);
-            return ended(p, Status::Failed, b"FAILED: the input was not served whole");
+            outputs.left(program);
+            return run.ended(Status::Failed, b"FAILED: the input was not served whole");
         }
-        if outputs.whole(p).is_err() {
-            return ended(p, Status::Failed, b"FAILED: not every output has its name");
+        if outputs.whole(program).is_err() {
+            return run.ended(Status::Failed, b"FAILED: not every output has its name");
         }
         Ok(())
     }

@@ -247,12 +247,11 @@ fn text_of(rt: &HostRuntime, v: Value) -> Result<arguments::Text, Fault> {
     arguments::whole_text_of(rt, v).map_err(|_| Fault::Long(v.at))
 }
 
-// The options of the arguments from `start` to before `end`. There are no more options than arguments, which bounds the loop: a `while let` over the places
+// The options of the arguments at some places. There are no more options than arguments, which bounds the loop: a `while let` over the places
 // would want of `take` a promise that it puts none back.
-pub(crate) fn read(rt: &HostRuntime, start: usize, end: usize) -> Result<Options, Fault> {
+pub(crate) fn read(rt: &HostRuntime, mut places: Range<usize>) -> Result<Options, Fault> {
     let mut o = Options::default();
-    let mut places = start..end;
-    for _ in start..end {
+    for _ in 0..places.len() {
         let Some(at) = places.next() else {
             break;
         };

@@ -1,5 +1,5 @@
 // The files of a run.
-use crate::options::Options;
+use crate::Run;
 use equalizer_stream::Files;
 use program::files::{OpenInput, Output};
 use program::messages::{Program, Told};
@@ -14,17 +14,17 @@ pub(crate) struct Outputs {
 
 impl Outputs {
     // Makes all outputs, or none.
-    pub(crate) fn open(p: Program<'_>, o: &Options, input: &OpenInput) -> Result<Outputs, Told> {
+    pub(crate) fn open(run: &Run<'_>, input: &OpenInput) -> Result<Outputs, Told> {
         let mut outputs = Outputs {
             symbols: None,
             marks: None,
             curve: None,
         };
-        match outputs.make(p, o, input.look(p.rt)) {
+        match outputs.make(run, input.look(run.program.rt)) {
             Ok(()) => Ok(outputs),
             Err(told) => {
                 for output in outputs.into_array().into_iter().flatten() {
-                    p.dropped(output);
+                    run.program.dropped(output);
                 }
                 Err(told)
             }
@@ -32,13 +32,14 @@ impl Outputs {
     }
 
     // Makes one after the other. Marks and curve do not replace the input.
-    fn make(&mut self, p: Program<'_>, o: &Options, input: Seen) -> Result<(), Told> {
-        self.symbols = p.output(Some(o.output), input, &[])?;
-        p.not_input(o.marks, input)?;
-        self.marks = p.output(o.marks, input, &[self.symbols.as_ref()])?;
-        p.not_input(o.curve, input)?;
-        self.curve = p.output(
-            o.curve,
+    fn make(&mut self, run: &Run<'_>, input: Seen) -> Result<(), Told> {
+        let Run { program, options } = *run;
+        self.symbols = program.output(Some(options.output), input, &[])?;
+        program.not_input(options.marks, input)?;
+        self.marks = program.output(options.marks, input, &[self.symbols.as_ref()])?;
+        program.not_input(options.curve, input)?;
+        self.curve = program.output(
+            options.curve,
             input,
             &[self.symbols.as_ref(), self.marks.as_ref()],
         )?;

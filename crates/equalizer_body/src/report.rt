@@ -1,11 +1,12 @@
 // What the program says, on standard error; help and version go to standard output.
-use crate::options::{About, Options};
+use crate::Run;
+use crate::options::About;
 use equalizer_stream::{Done, Ending, Tally, Target};
 use program::arguments::{Fault, Name, Value};
 use program::messages::Part::{Count, Float, Reason, Text, Words};
 use program::messages::{Part, Program, Told};
 use program::text::Page;
-use program::{Status, arguments};
+use program::{Status, arguments, files};
 use std::env::Env;
 use std::fmt;
 use std::fmt::Write as _;
@@ -116,52 +117,38 @@ fn unread(p: Program<'_>, name: Name, e: Error) {
     p.tell(&[Words(b"reading "), file, Words(b" failed: "), Reason(e)]);
 }
 
-// A write that failed: of a named output its `.part` was written.
-fn unwritten(p: Program<'_>, name: Name, e: Error) {
-    let (file, part) = match name {
-        Name::Standard => (Words(b"standard output"), Words(b"")),
-        Name::File(v) => (Text(v), Words(b".part")),
-    };
-    p.tell(&[
-        Words(b"writing "),
-        file,
-        part,
-        Words(b" failed: "),
-        Reason(e),
-    ]);
-}
-
 // What went wrong in a run.
-fn trouble(p: Program<'_>, o: &Options, e: Ending) {
+fn trouble(run: &Run<'_>, e: Ending) {
+    let Run { program, options } = *run;
     match e {
         Ending::Truncated(n) => {
-            p.tell(&[
+            program.tell(&[
                 Words(b"the input is truncated: "),
                 Count(n as u64),
                 Words(b" bytes are left over, and a sample has 8"),
             ]);
         }
-        Ending::Unread(error) => unread(p, o.input, error),
+        Ending::Unread(error) => unread(program, options.input, error),
         Ending::Unwritten(target, error) => {
             let name = match target {
-                Target::Symbols => Some(o.output),
-                Target::Marks => o.marks,
-                Target::Curve => o.curve,
+                Target::Symbols => Some(options.output),
+                Target::Marks => options.marks,
+                Target::Curve => options.curve,
             };
-            unwritten(p, name.unwrap_or(Name::Standard), error);
+            program.tell(&files::unwritten(name.unwrap_or(Name::Standard), error));
         }
         Ending::Refused(error) => {
-            refused(p, error);
+            refused(program, error);
         }
     }
 }
 
 // The summary, and what went wrong.
-pub(crate) fn done(p: Program<'_>, o: &Options, d: Done) {
-    counts(p, d.progress.tally);
-    record(p, d.progress.state);
+pub(crate) fn done(run: &Run<'_>, d: Done) {
+    counts(run.program, d.progress.tally);
+    record(run.program, d.progress.state);
     if let Err(e) = d.ending {
-        trouble(p, o, e);
+        trouble(run, e);
     }
 }
 
@@ -172,7 +159,7 @@ pub(crate) fn about(p: Program<'_>, about: About) -> Result<(), Status> {
         About::Version => VERSION,
     };
     p.rt.stdout().write_all(text).map_err(|e| {
-        unwritten(p, Name::Standard, e);
+        p.tell(&files::unwritten(Name::Standard, e));
         Status::Failed
     })
 }
