@@ -5,6 +5,7 @@ use crate::words::Words;
 use std::fmt;
 use std::fs::File;
 use std::io::Read;
+use std::ops::AddAssign;
 
 // What was found so far.
 #[derive(Clone, Copy, Default)]
@@ -15,13 +16,15 @@ pub(crate) struct Tally {
     malformed: u64,
 }
 
-impl Tally {
-    pub(crate) fn add(&mut self, found: Tally) {
+impl AddAssign for Tally {
+    fn add_assign(&mut self, found: Tally) {
         self.compared = self.compared.saturating_add(found.compared);
         self.differ = self.differ.saturating_add(found.differ);
         self.malformed = self.malformed.saturating_add(found.malformed);
     }
+}
 
+impl Tally {
     pub(crate) fn add_malformed(&mut self) {
         self.malformed = self.malformed.saturating_add(1);
     }
@@ -78,17 +81,19 @@ impl Word {
     }
 }
 
-// A line as far as it is read: its whole words, and the word that is being read, or none where the line can no
-// longer be in its form.
+// A line of a leaf as far as it is read: its whole words, and the word that is being read, or none where the line can
+// no longer be in its form.
 #[derive(Drop)]
-struct Line {
+struct Line<'a> {
+    leaf: &'a Leaf,
     words: Words,
     word: Option<Word>,
 }
 
-impl Line {
-    fn new() -> Line {
+impl Line<'_> {
+    fn new(leaf: &Leaf) -> Line<'_> {
         Line {
+            leaf,
             words: Words::new(),
             word: Some(Word::default()),
         }
@@ -104,42 +109,42 @@ impl Line {
     }
 
     // Keeps a word that has ended, and begins the next.
-    fn after(&mut self, word: Word, leaf: &Leaf) -> Option<Word> {
-        if word.digits != leaf.digits(self.words.len()) {
+    fn after(&mut self, word: Word) -> Option<Word> {
+        if word.digits != self.leaf.digits(self.words.len()) {
             return None;
         }
         self.words.try_push(word.value).ok()?;
         Some(Word::default())
     }
 
-    fn take(&mut self, b: u8, leaf: &Leaf) {
+    fn take(&mut self, b: u8) {
         let Some(word) = self.word else {
             return;
         };
         self.word = match b {
-            b' ' | b'\n' => self.after(word, leaf),
+            b' ' | b'\n' => self.after(word),
             _ => word.with(b),
         };
     }
 
     // Whether a line that has ended agrees with the Rust.
-    fn agrees(&self, leaf: &Leaf) -> Option<bool> {
+    fn agrees(&self) -> Option<bool> {
         self.word?;
-        (leaf.agrees)(self.words.as_slice())
+        (self.leaf.agrees)(self.words.as_slice())
     }
 }
 
 #[derive(Drop)]
-struct Reader {
-    line: Line,
+struct Reader<'a> {
+    line: Line<'a>,
     tally: Tally,
 }
 
-impl Reader {
-    fn take(&mut self, b: u8, leaf: &Leaf) {
-        self.line.take(b, leaf);
+impl Reader<'_> {
+    fn take(&mut self, b: u8) {
+        self.line.take(b);
         if b == b'\n' {
-            self.tally.add_line(self.line.agrees(leaf));
+            self.tally.add_line(self.line.agrees());
             self.line.clear();
         }
     }
@@ -158,7 +163,7 @@ const CHUNK: usize = 4096;
 pub(crate) fn read_all(file: &File, leaf: &Leaf) -> Tally {
     let mut from = file;
     let mut reader = Reader {
-        line: Line::new(),
+        line: Line::new(leaf),
         tally: Tally::default(),
     };
     let mut buf = [0u8; CHUNK];
@@ -172,7 +177,7 @@ pub(crate) fn read_all(file: &File, leaf: &Leaf) -> Tally {
             }
             Ok(n) => {
                 for b in &buf[..n] {
-                    reader.take(*b, leaf);
+                    reader.take(*b);
                 }
             }
             Err(_) => break,

@@ -28,7 +28,7 @@ fn replay(rt: &HostRuntime, total: &mut Tally, leaf: &Leaf) -> Result<()> {
         return println!(rt; "{name}: cannot read");
     };
     let found = lines::read_all(&file, leaf);
-    total.add(found);
+    *total += found;
     println!(rt; "{name}: {found}")
 }
 
