@@ -207,22 +207,19 @@ impl Options {
         let argument = text_of(rt, Value::from(at))?;
         let text = argument.bytes();
         let name = arguments::name_end(text);
-        let has_value = name < text.len();
-        match named(&text[..name]) {
-            None => Err(Fault::Unknown(at)),
-            Some(Kind::Alone(flag)) => {
-                if has_value {
-                    return Err(Fault::NotTaken(at));
-                }
+        // Behind a `=`.
+        let value = (name < text.len()).then(|| Value { at, from: name + 1 });
+        match (named(&text[..name]), value) {
+            (None, _) => Err(Fault::Unknown(at)),
+            (Some(Kind::Alone(_)), Some(_)) => Err(Fault::NotTaken(at)),
+            (Some(Kind::Alone(flag)), None) => {
                 self.flag(flag);
                 Ok(())
             }
-            Some(Kind::Valued(setting, takes)) => {
-                let v = if has_value {
-                    Value { at, from: name + 1 }
-                } else {
-                    Value::from(places.next().ok_or(Fault::NoValue(at))?)
-                };
+            (Some(Kind::Valued(setting, takes)), value) => {
+                let v = value
+                    .or_else(|| places.next().map(Value::from))
+                    .ok_or(Fault::NoValue(at))?;
                 self.take_value(rt, at, setting, takes, v)
             }
         }
