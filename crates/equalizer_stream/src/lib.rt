@@ -126,8 +126,8 @@ struct Filled {
     more: io::Result<bool>,
 }
 
-// Reads until raw is full, the input ends or a read fails. A loop: a read tells how far it came, and no call of the library fills partly and
-// says how far.
+// Reads until raw is full, the input ends or a read fails. A loop: `io::copy` of a `take` into the slice clears 8,192 bytes before each read, so that
+// blocks of one sample from a pipe took 16 % longer by it, blocks of 16 samples 5 %, and a file 2 %.
 fn fill(mut input: Source<'_>, raw: &mut [u8]) -> Filled
     ensures { result.bytes ≤ length raw.old }
 {
@@ -165,7 +165,7 @@ fn line(p: &mut Lines, re: f32, im: f32, mark: u8) {
     p.words(b"\n");
 }
 
-// Writes a page that has no room for another line, and begins it anew.
+// Writes a page that has no room for another line, and begins it anew. No `BufWriter`: it takes an allocator, and there is no heap.
 fn turned(to: &mut Sink<'_>, p: &mut Lines) -> io::Result<()> {
     if p.room() > LINE {
         return Ok(());
