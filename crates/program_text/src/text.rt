@@ -78,6 +78,7 @@ impl<const N: usize> Page<N> {
 
     // x in scientific notation with nine digits; a zero, an infinity and a NaN are `0`, `inf` and `nan`, the first two with their sign.
     // No `{x:.8e}`: it brings a tie to the even digit, so that 1.017578125 would be 1.01757812e0 and not 1.01757813e0, and a zero is 0.00000000e0 there.
+    // No match on `classify`: the sign stands before all but a NaN, which would want a test before the match.
     pub fn float(&mut self, x: f32) {
         if x.is_nan() {
             return self.words(b"nan");
