@@ -18,6 +18,13 @@ abbrev pub out : Bool → ℕ → ℕ
 out false k = min k (2 ^ 63 - 1) % 2 ^ 32
 out true k = (2 ^ 32 - min k (2 ^ 63) % 2 ^ 32) % 2 ^ 32
 
+pub bit_le : (s : Bool) → bit s ≤ 1
+bit_le true = le_of_eq refl
+bit_le false = zero-le
+
+pub twice : (c : ℕ) → 0 < c → 0 < 2 * c
+twice c h = omega arith
+
 turn : (n : ℕ) → 2 ^ 32 - 1 - min n (2 ^ 63 - 1) % 2 ^ 32 ≡ (2 ^ 32 - min (n + 1) (2 ^ 63) % 2 ^ 32) % 2 ^ 32
 turn n = omega arith
 
@@ -46,9 +53,6 @@ by_magnitude true a c h = go (leb (2 * a) c) (leb→le (2 * a) c) (nleb→lt (2 
         turn ((2 * a - suc c) / (2 * c))
         ∙ ap (λ (x : ℕ). (2 ^ 32 - min x (2 ^ 63) % 2 ^ 32) % 2 ^ 32)
         (sym (add-div_right (2 * a - suc c) (twice c h)) ∙ ap (λ (x : ℕ). x / (2 * c)) (regroup a c (g tt)))
-      where
-        twice : (c : ℕ) → 0 < c → 0 < 2 * c
-        twice c h = omega arith
 
 -- ---- a half up or down, of equal fractions
 
@@ -67,9 +71,6 @@ cross a c c' = add-mul (2 * a) c (2 * c') ∙ ap (λ (x : ℕ). x + c * (2 * c')
 
 crossed : (a c a' c' : ℕ) → a * c' ≡ a' * c → (2 * a + c) * (2 * c') ≡ (2 * a' + c') * (2 * c)
 crossed a c a' c' e = cross a c c' ∙ ap (λ (x : ℕ). 4 * x + 2 * (c * c')) e ∙ ap (λ (x : ℕ). 4 * (a' * c) + 2 * x) (mul_comm c c') ∙ sym (cross a' c' c)
-
-twice : (c : ℕ) → 0 < c → 0 < 2 * c
-twice c h = omega arith
 
 less_none : (x : ℕ) → x - 0 ≡ x
 less_none x = omega arith
@@ -132,10 +133,6 @@ mag_more n g x h =
 
 abbrev Step : Float → Bool → ℕ → Type 0
 Step v s a = phase_step v ≡ out s (half_up (bit s) (2 * a) (2 ^ 118))
-
-bit_le : (s : Bool) → bit s ≤ 1
-bit_le true = le_of_eq refl
-bit_le false = zero-le
 
 pub step_value : (v : Float) (s : Bool) (a : ℕ) → HasValue v s a (2 ^ 149) → Step v s a
 unfolding phase_step step_int

@@ -9,7 +9,7 @@ use Rattle.std.specs.Float.{is_sign_negative}
 use Rattle.laws.specs.Fields.{View, view}
 use Rattle.definition.specs.Phase.{phase_step, step_int}
 use Rattle.costas_step.specs.HalfUp.{half_up}
-use Rattle.costas_step.proofs.Halves.{bit, out, step_value, mag_whole, mag_part, mag_more}
+use Rattle.costas_step.proofs.Halves.{bit, bit_le, twice, out, step_value, mag_whole, mag_part, mag_more}
 
 -- ---- `magnitude`
 
@@ -26,10 +26,6 @@ far n g x h l =
 
 pub whole : (n g x : ℕ) → n ≤ 1 → 118 ≤ x → g * 2 ^ (x - 118) % 2 ^ 32 ≡ half_up n (g * 2 ^ x) (2 ^ 118) % 2 ^ 32
 whole n g x h l = ap (λ (y : ℕ). y % 2 ^ 32) (sym (mag_whole n g x h l))
-
-pub bit_le : (s : Bool) → bit s ≤ 1
-bit_le true = lit≤ tt
-bit_le false = lit≤ tt
 
 -- below 2 ^ 14: the digits are shifted up by 39, so that one shift down serves every exponent
 module _ (n g x : ℕ) (n1 : n ≤ 1) (lo : 94 ≤ x) (hi : x ≤ 140) (g1 : 1 ≤ g) (g24 : g < 2 ^ 24) where
@@ -76,9 +72,6 @@ rounds_to_zero n a c h = div-eq_of_lt (near_zero n a c h)
 big : (n a c q : ℕ) → n ≤ 1 → 0 < c → q ≤ a → 2 * q ≤ 2 * a + c - n
 big n a c q h p l = omega arith
 
-twice : (c : ℕ) → 0 < c → 0 < 2 * c
-twice c h = omega arith
-
 rounds_big : (n a c k : ℕ) → n ≤ 1 → 0 < c → k * c ≤ a → k ≤ half_up n a c
 rounds_big n a c k h p l = (le-div_iff_mul-le (twice c p)).1 (le_trans (le_of_eq (mul_left_comm k 2 c)) (big n a c (k * c) h p l))
 
@@ -96,11 +89,11 @@ exp_is b = field b 8 23 ∙ sym (and_mask (b / 2 ^ 23) 8)
 pub sig_is : (b : ℕ) → 2 ^ 23 + b % 2 ^ 23 ≡ bit_or (bit_and b (2 ^ 23 - 1)) (2 ^ 23)
 sig_is b = sym (ap (λ (k : ℕ). bit_or k (2 ^ 23)) (and_mask b 23) ∙ or_shifted_r 1 23 (b % 2 ^ 23) (mod-lt b (pow_pos 23)))
 
+lead : (t : ℕ) → t < 2 ^ 23 → 2 ^ 23 + t < 2 ^ 24
+lead t h = omega arith
+
 pub sig_lt : (b : ℕ) → bit_or (bit_and b (2 ^ 23 - 1)) (2 ^ 23) < 2 ^ 24
-sig_lt b = subst (λ (y : ℕ). y < 2 ^ 24) (sig_is b) (go (b % 2 ^ 23) (mod-lt b (pow_pos 23)))
-  where
-    go : (t : ℕ) → t < 2 ^ 23 → 2 ^ 23 + t < 2 ^ 24
-    go t h = omega arith
+sig_lt b = subst (λ (y : ℕ). y < 2 ^ 24) (sig_is b) (lead (b % 2 ^ 23) (mod-lt b (pow_pos 23)))
 
 -- ---- the three answers
 
@@ -175,9 +168,6 @@ answers v s x t h (inr (inl z)) =
       λ l k. is',
     )
   where
-    lead : (t : ℕ) → t < 2 ^ 23 → 2 ^ 23 + t < 2 ^ 24
-    lead t h = omega arith
-
     split181 : 2 ^ 63 * 2 ^ 118 ≡ 2 ^ 23 * 2 ^ 158
     split181 = refl
 answers v s x t h (inr (inr z)) = (
