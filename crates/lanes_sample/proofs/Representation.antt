@@ -58,12 +58,6 @@ module _ (n m at : ℕ) (xr xi q h : List Float) (v : C32) (w : Window n m at xr
       in_front (set l (at + 152) u) (at + 152) m u x y (get_or-set_same l (at + 152) u nan (omega arith))
       (λ j b. let e : at + 152 + 1 + j ≡ at + 153 + j = omega arith in rw e (get_or-set_other l (at + 152) (at + 153 + j) u nan (λ (z : at + 153 + j ≡ at + 152). omega arith) ∙ old j b))
 
-  first : 0 < m → (re_at (fed_in n m v h) (n + 0) ≡ v.re) × (im_at (fed_in n m v h) (n + 0) ≡ v.im)
-  first = after_first n m v h w.taps
-
-  more : (j : ℕ) → suc j < m → (re_at (fed_in n m v h) (n + suc j) ≡ re_at h (n + j)) × (im_at (fed_in n m v h) (n + suc j) ≡ im_at h (n + j))
-  more = after_more n m v h w.taps
-
   pub past_next : Past n m at (set xr (at + 152) v.re) (set xi (at + 152) v.im) (fed_in n m v h)
   past_next =
       let br = between_one (at + 152) v.re xr (omega arith) in
@@ -74,8 +68,8 @@ module _ (n m at : ℕ) (xr xi q h : List Float) (v : C32) (w : Window n m at xr
           im_is = λ j l. bi.low (at + j) (omega arith) ∙ w.forth.im_is j l ∙ sym (after_head n m v h w.taps (2 * (0 + j) + 1) (omega arith));
         };
         back = record {
-          re_is = fed xr v.re (λ j. re_at h (n + j)) (λ j. re_at (fed_in n m v h) (n + j)) lr w.back.re_is (λ l. (first l).0) (λ j l. (more j l).0);
-          im_is = fed xi v.im (λ j. im_at h (n + j)) (λ j. im_at (fed_in n m v h) (n + j)) li w.back.im_is (λ l. (first l).1) (λ j l. (more j l).1);
+          re_is = fed xr v.re (λ j. re_at h (n + j)) (λ j. re_at (fed_in n m v h) (n + j)) lr w.back.re_is (λ l. (after_first n m v h w.taps l).0) (λ j l. (after_more n m v h w.taps j l).0);
+          im_is = fed xi v.im (λ j. im_at h (n + j)) (λ j. im_at (fed_in n m v h) (n + j)) li w.back.im_is (λ l. (after_first n m v h w.taps l).1) (λ j l. (after_more n m v h w.taps j l).1);
         };
         calm = calm_between br bi (λ k p q l. (fr, fi)) w.calm;
         taps = after_long n m v h w.taps;
@@ -84,7 +78,7 @@ module _ (n m at : ℕ) (xr xi q h : List Float) (v : C32) (w : Window n m at xr
   pub squares_next : Squares q (at + 153) h n m → Squares (set q (at + 152) (norm v)) (at + 152) (fed_in n m v h) n m
   squares_next s = record {
     is = fed q (norm v) (λ j. norm (complex (re_at h (n + j)) (im_at h (n + j)))) (λ j. norm (complex (re_at (fed_in n m v h) (n + j)) (im_at (fed_in n m v h) (n + j)))) lq s.is
-        (λ l. rw ((first l).0, (first l).1)) (λ j l. rw ((more j l).0, (more j l).1));
+        (λ l. rw ((after_first n m v h w.taps l).0, (after_first n m v h w.taps l).1)) (λ j l. rw ((after_more n m v h w.taps j l).0, (after_more n m v h w.taps j l).1));
   }
 
 -- ---- ONE SAMPLE: whatever stage t the steps 3 to 7 come to, arrays that hold its weights and get its fed-back sample hold the equalizer after step 8

@@ -7,38 +7,29 @@ use native.Mathlib.Omega.{arith}
 use lib.ListN.{length}
 use lib.Dec.{T}
 use lib.Ieee.{Float}
-use lib.Ieee.Bits.{is_true}
 use Rattle.types.specs.declared.C32.{C32}
-use Rattle.types.specs.declared.CosSin.{CosSin}
 use Rattle.types.specs.declared.EqualizeState.{EqualizeState}
 use Rattle.types.specs.declared.Mark.TheVariants.{Blank, Spilled}
 use Rattle.types.specs.Bits.{zero32}
 use Rattle.definition.specs.Floats.{finite_c}
 use Rattle.definition.specs.Slices.{dot_complex, power}
-use Rattle.definition.specs.Phase.{cos_sin}
 use Rattle.definition.specs.Packed.{equalizer}
 use Rattle.definition.specs.Sample.{step2, mu_of, step_size, update_of, adapted, tracked, hear, heard_as, step3}
 use Rattle.definition.specs.Sample as sample
 use Rattle.definition.specs.Rules.{rule_r4, accepted_def}
-use Rattle.definition_laws.proofs.Accept.{Accepted, accepted_parts, shape}
+use Rattle.definition_laws.proofs.Accept.{Accepted, accepted_is, shape}
+use Rattle.definition_laws.proofs.Accept as accept
 use Rattle.plain.specs.declared.counts.Taps.{Taps}
 use Rattle.plain.specs.Taps.{Beside}
-use Rattle.steps.specs.declared.Stepped.{Stepped}
 use Rattle.steps.specs.declared.Stage.{Stage}
-use Rattle.steps.specs.Step.{track_of, update_if, step_at, step_with, heard_of, unheard_of, stage}
+use Rattle.steps.specs.Step.{unheard_of, stage}
+pub use Rattle.steps.proofs.Heard.{heard_by}
 
 -- ---- steps 4 to 7
 
 pub power_none : (x : List Float) → zero32 ≡ power x 0
 unfolding power
 power_none x = refl
-
-module _ (s : EqualizeState) (w h : List Float) (y : C32) (n f : ℕ) where
-  pub heard_by : (t : CosSin) (F P size : Float) (r : Stepped) (v : List Float) (k : Stage)
-      → F ≡ power h f → P ≡ power h n → size ≡ step_size (mu_of s.mode s.params) P → t ≡ cos_sin s.phase → r ≡ step_with s t y F size
-      → v ≡ adapted r.update n f w h → k ≡ heard_of r → stage s k v ≡ heard_as s w n f h (hear s n f h y)
-  unfolding step_with step_at track_of update_if heard_as hear tracked update_of
-  heard_by t F P size r v k p1 p2 p3 p4 p5 p6 p7 = rw (p7, p6, p5, p4, p3, p2, p1)
 
 -- ---- steps 2 and 3
 
@@ -68,11 +59,11 @@ counted s w h t z = (omega (arith, z.weights), (omega (arith, z.weights, z.sum),
 
 module _ (s : EqualizeState) (w h : List Float) (t : accepted_def (equalizer s w h) ≡ true) where
   accepted : Accepted (equalizer s w h)
-  accepted = accepted_parts (equalizer s w h) (subst T (sym t) tt)
+  accepted = accepted_is (equalizer s w h) t
 
   pub accepted_taps : let n = length w / 2 in let m = s.params.feedback_taps in
       (m ≤ n) × ((3 ≤ n - m) × ((n - m ≤ 63) × ((m ≤ 63) × ((length w ≡ 2 * n) × (length h ≡ 2 * n)))))
   accepted_taps = let t = shape (equalizer s w h) accepted in (omega (arith, t.sum, t.some), (t.some, (t.most, (t.back, (t.weights, t.window)))))
 
   pub accepted_r4 : rule_r4 s ≡ true
-  accepted_r4 = is_true (rule_r4 s) accepted.r4
+  accepted_r4 = accept.accepted_r4 (equalizer s w h) t

@@ -4,15 +4,13 @@ use mathlib.Core.Path.{◌≡◌, sym, ◌∙◌, subst}
 use mathlib.Core.Bool.{true}
 use mathlib.Core.List.{List}
 use lib.ListN.{length}
-use lib.Dec.{T}
 use lib.Ieee.{Float}
-use lib.Ieee.Bits.{is_true}
 use Rattle.types.specs.declared.EqualizeState.{EqualizeState}
 use Rattle.definition.specs.Slices.{samples_of}
 use Rattle.definition.specs.Packed.{equalizer, Ran}
 use Rattle.definition.specs.Rules.{rule_r4, TapCounts as Taps}
 use Rattle.definition.specs.Run.{run_def}
-use Rattle.definition_laws.proofs.Accept.{Accepted, accepted_parts, shape}
+use Rattle.definition_laws.proofs.Accept.{Accepted, accepted_is, accepted_r4, shape}
 use Rattle.lanes.specs.Arrays.{Arrays, arrays}
 use Rattle.lanes.specs.Holds.{Limits, LaneCounts}
 use Rattle.lanes.specs.Between.{Between}
@@ -31,7 +29,7 @@ module _ (n m f : ℕ) (k : f ≡ n % 8) (w h : List Float) (a₀ : Arrays) (e :
   pub loads : Loads n m w h (arrays wr wi xr xi sq)
   loads = record {
     loaded = λ s ok t b.
-        load_holds n m wr₁ wi₁ wr wi xr₁ xi₁ xr xi sq (equalizer s w h) (accepted_parts (equalizer s w h) (subst T (sym ok) tt)) t b
+        load_holds n m wr₁ wi₁ wr wi xr₁ xi₁ xr xi sq (equalizer s w h) (accepted_is (equalizer s w h) ok) t b
         (rw (e.wr, e.wi) at l1) (rw k at l2) (rw (e.xr, e.xi) at l3) l4 (rw e.q at l5);
   }
 
@@ -45,7 +43,7 @@ stores n m f wr wi xr xi w₀ w₁ w h₀ h₁ h e a b c d = record {
 -- ---- the call
 module _ (s : EqualizeState) (w h xs ys : List Float) (ms : List ℕ) (n m : ℕ) (q : Asked s w h xs ys ms n m) where
   accepted : Accepted (equalizer s w h)
-  accepted = accepted_parts (equalizer s w h) (subst T (sym q.shaped.accepted) tt)
+  accepted = accepted_is (equalizer s w h) q.shaped.accepted
 
   taps : Taps (equalizer s w h)
   taps = shape (equalizer s w h) accepted
@@ -57,7 +55,7 @@ module _ (s : EqualizeState) (w h xs ys : List Float) (ms : List ℕ) (n m : ℕ
   asked_long g f = let t = taps in rw (f.back_is, q.forth, q.back, t.sum) (t.weights, t.window)
 
   pub asked_r4 : rule_r4 s ≡ true
-  asked_r4 = is_true (rule_r4 s) accepted.r4
+  asked_r4 = accepted_r4 (equalizer s w h) q.shaped.accepted
 
 pub call_is : (s : EqualizeState) (w h xs ys₀ : List Float) (ms₀ : List ℕ) (n m : ℕ) (g : Shape) (limit : List Float) (a : Arrays) (wr wi xr xi sq ys : List Float) (ms : List ℕ) (r : EqualizeState) (w' h' : List Float)
     → Asked s w h xs ys₀ ms₀ n m → Formed n m g → Limits limit 0 0 n × Limits limit 72 g.front g.m → Loads n g.m w h a → AllRuns s g n limit a xs (arrays wr wi xr xi sq) ys ms r

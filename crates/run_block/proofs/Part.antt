@@ -1,12 +1,11 @@
 -- One run more of a block: its part of output and marks goes behind what the runs before have written. Assumes nothing.
 use Prim.Native.Nat.{ℕ, ◌*◌, ◌-◌, ◌%◌, ◌≤◌}
-use mathlib.Core.Path.{◌≡◌, refl, sym, ◌∙◌, ap, subst}
+use mathlib.Core.Path.{◌≡◌, refl, sym, ◌∙◌, ap}
 use mathlib.Core.List.{List, [], ◌∷◌, ◌++◌, append_assoc}
 use native.Mathlib.Omega.{arith}
 use borrow.Rule.Slice.PartMut.{mid_of, put_mid, mid_len, Post-is}
 use lib.ListN.{length, take, drop, length-append, take-append-drop}
 use lib.Seq.{take_at, length-take-le}
-use lib.Dec.{T}
 use lib.Ieee.{Float}
 use lib.Ieee.Bits.{is_true}
 use Rattle.types.specs.declared.C32.{C32}
@@ -17,7 +16,7 @@ use Rattle.definition.specs.Sample.{Equalizer}
 use Rattle.definition.specs.Rules.{accepted_def}
 use Rattle.definition.specs.Run.{Run, ahead, run_def, symbol_parts, mark_byte}
 use Rattle.definition_laws.proofs.Progress.{Progress, written-more}
-use Rattle.definition_laws.proofs.Accept.{accepted_parts, accepted_whole}
+use Rattle.definition_laws.proofs.Accept.{accepted_is, accepted_whole}
 use Rattle.definition_laws.proofs.Kept.{run_accepted}
 use Rattle.definition_laws.proofs.Runs.{run_append, run_outs, symbols_length, marks_length, samples_length}
 
@@ -63,7 +62,7 @@ module _ (q₀ : Equalizer) (xs : List Float) (q : Equalizer) (ys : List Float) 
       let hy = put_head (2 * i) (2 * e) ys part (omega arith) (omega arith) lp in
       let hm = put_head i e ms pm a b lm in
       record {
-        accepted = ap accepted_def ran.left ∙ is_true _ (accepted_whole _ (run_accepted q (samples_of (mid_of (2 * i) (2 * e - 2 * i) xs)) (accepted_parts q (subst T (sym g.accepted) tt))));
+        accepted = ap accepted_def ran.left ∙ is_true _ (accepted_whole _ (run_accepted q (samples_of (mid_of (2 * i) (2 * e - 2 * i) xs)) (accepted_is q g.accepted)));
         left = sym (ap (λ (t : Run). t.equalizer) whole_is) ∙ g.left;
         out = written-more Float symbol_parts q₀ xs q q' ys _ (2 * i) (2 * i) (2 * e) (2 * e) os whole_is (hy ∙ ap (λ (l : List Float). take (2 * i) ys ++ l) ran.out) g.out;
         marks = written-more ℕ mark_byte q₀ xs q q' ms _ (2 * i) i (2 * e) e os whole_is (hm ∙ ap (λ (l : List ℕ). take i ms ++ l) ran.marks) g.marks;

@@ -37,10 +37,6 @@ prepared s n from xs xr xi xr' xi' q₀ q p₀ ps ss l e b p z = record {
   sizes = sized_from s ps ss from (64 - length xs / 2) l z;
 }
 
-module _ (xs ys : List Float) (ms : List ℕ) (i e : ℕ) (a : i ≤ e) (b : e ≤ i + 64) (l : e ≤ length ms) (input : length xs ≡ 2 * length ms) where
-  part_xs : length (mid_of (2 * i) (2 * e - 2 * i) xs) ≡ 2 * e - 2 * i
-  part_xs = mid_len (2 * i) (2 * e) xs (omega arith)
-
 module _ (s : EqualizeState) (g : Shape) (n : ℕ) (limit wr wi xr xi sq xr1 xi1 sq1 ps ss xs : List Float) (a' : Arrays) (ypart : List Float) (mpart : List ℕ) (r : EqualizeState)
     (begin : Prepared s n xs xr xi sq xr1 xi1 sq1 ps ss) (runs : Runs s g limit (arrays wr wi xr1 xi1 sq1) ps ss xs a' ypart mpart r) where
   ready : (w h : List Float) → n ≤ 63 → length xs ≤ 128 → Setting g n limit → Holds n g.m 64 (arrays wr wi xr xi sq) (equalizer s w h) → RunReady s g n limit (arrays wr wi xr1 xi1 sq1) ps ss xs w h
@@ -73,7 +69,7 @@ pub whole_run : (s : EqualizeState) (g : Shape) (n : ℕ) (limit wr wi xr xi sq 
     → WholeRun s g n limit (arrays wr wi xr xi sq) xs ys ms i e (arrays a'.wr a'.wi xr'' xi'' sq'') (put_mid (2 * i) (2 * e - 2 * i) ys ypart) (put_mid i (e - i) ms mpart) r
 whole_run s g n limit wr wi xr xi sq xr1 xi1 sq1 ps ss xs ys ms i e a' ypart mpart r xr'' xi'' sq'' a b l input ln begin runs ends =
     let x = mid_of (2 * i) (2 * e - 2 * i) xs in
-    let lx = part_xs xs ys ms i e a b l input in
+    let lx : length x ≡ 2 * e - 2 * i = mid_len (2 * i) (2 * e) xs (omega (arith, l, input)) in
     let len : length mpart ≡ e - i = omega (arith, runs.input, lx) in
     let ends' : Finished n g.m (64 - length mpart) a'.xr a'.xi a'.q xr'' xi'' sq'' = rw len ends in
     record {

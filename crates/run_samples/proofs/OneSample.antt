@@ -25,7 +25,7 @@ use Rattle.definition.specs.Sample as sample
 use Rattle.definition.specs.Sample.{Did, Out, mu_of, step_size, update_of, adapted, tracked, hear, heard_as, step1, step2, step3, never_switch, with_mode, advance_in, advance, step8, sample_def}
 use Rattle.definition.specs.Rules.{rule_r4}
 use Rattle.definition_laws.proofs.Exits.{stage-blank, stage-spilled, stage-heard}
-use Rattle.definition_laws.proofs.Accept.{accepted_parts}
+use Rattle.definition_laws.proofs.Accept.{accepted_is}
 use Rattle.definition_laws.proofs.Kept.{advance_r4}
 use Rattle.lanes.specs.Arrays.{Arrays, arrays}
 use Rattle.lanes.specs.Holds.{Holds}
@@ -36,15 +36,12 @@ use Rattle.steps.specs.declared.Track.{Track}
 use Rattle.lanes.specs.declared.Shape.{Shape}
 use Rattle.steps.specs.declared.Stage.{Stage}
 use Rattle.steps.specs.declared.Sampled.{Sampled}
-use Rattle.steps.specs.Step.{track_of, update_if, step_at, step_with, step_of, with_track, heard_of, unheard_of, stage, sampled_of, did}
+use Rattle.steps.proofs.Heard.{heard_by}
+use Rattle.definition.specs.Phase.{cos_sin}
+use Rattle.steps.specs.Step.{step_of, with_track, heard_of, unheard_of, sampled_of, did}
 use Rattle.run_samples.specs.Sample.{size_of, stage_of, Before, StageIs, Takes, Samples}
 
 -- ---- steps 4 to 7
-step_heard : (s : EqualizeState) (w h : List Float) (n f : ℕ) (y : C32) (F size : Float) → F ≡ power h f → size ≡ step_size (mu_of s.mode s.params) (power h n)
-    → stage s (heard_of (step_of s y F size)) (adapted (step_of s y F size).update n f w h) ≡ heard_as s w n f h (hear s n f h y)
-unfolding step_of step_with step_at track_of update_if heard_as hear tracked update_of
-step_heard s w h n f y F size a b = rw (a, b)
-
 -- ---- `take`
 module _ (s : EqualizeState) (w h : List Float) (n m : ℕ) (x y : C32) (e : y ≡ step2 (n + m) w (step1 n x h)) where
   took-blank : finite_c x ≡ false → StageIs s n m x w h Hold (unheard_of s Blank)
@@ -57,9 +54,9 @@ module _ (s : EqualizeState) (w h : List Float) (n m : ℕ) (x y : C32) (e : y �
 
   took-heard : (F size : Float) → finite_c x ≡ true → finite_c y ≡ true → F ≡ power (step1 n x h) n
       → size ≡ step_size (mu_of s.mode s.params) (power (step1 n x h) (n + m)) → StageIs s n m x w h (step_of s y F size).update (heard_of (step_of s y F size))
-  unfolding stage_of
+  unfolding stage_of step_of
   took-heard F size i j a b =
-      step_heard s w (step1 n x h) (n + m) n y F size a b ∙ sym (stage-heard s w (n + m) n x (step1 n x h) y i j) ∙ ap (step3 s w (n + m) n x (step1 n x h)) e
+      heard_by s w (step1 n x h) y (n + m) n (cos_sin s.phase) F (power (step1 n x h) (n + m)) size (step_of s y F size) _ _ a refl b refl refl refl refl ∙ sym (stage-heard s w (n + m) n x (step1 n x h) y i j) ∙ ap (step3 s w (n + m) n x (step1 n x h)) e
 
 module _ (s : EqualizeState) (g : Shape) (at : ℕ) (x : C32) (F ahead : Float) (limit : List Float) (a : Arrays) (y : C32) (all : Float)
     (measures : Measures g.m g.lanes g.more g.front at a F y all) where
@@ -157,7 +154,7 @@ sampled_is s g at x F ahead limit a a' r k low r4 t er ei eq e =
           let q = equalizer s w h in
           let tk = t.stage_is n w h f in
           let is = did-is s w h n g.m at a x r t.update f.holds tk in
-          let hd = sample_holds n g.m at g.lanes g.more g.quads g.mquads g.front g.centre limit a a' q x t.update r.fed (accepted_parts q (subst T (sym ok) tt))
+          let hd = sample_holds n g.m at g.lanes g.more g.quads g.mquads g.front g.centre limit a a' q x t.update r.fed (accepted_is q ok)
           f.setting.shaped f.setting.front_is f.setting.middle f.setting.limits f.setting.limits' f.holds f.put
           (unfold stage_of in (sym (ap (λ (k : sample.Stage). k.weights) tk))) (unfold stage_of in (sym (ap (λ (k : sample.Stage). k.fed) tk))) ab in
           record {
