@@ -1,5 +1,5 @@
 -- THE EXPORTED CALLS THAT TAKE NO SAMPLES, whole: what each replies and leaves, from the record as numbers (capi_numbers).
-use Rattle.std.specs.Prelude.{⊤, true, cond, ◌&&◌, List, length, Float, Ok}
+use Rattle.std.specs.Prelude.{true, cond, ◌&&◌, List, length, Float, ⊤, Ok}
 use Rattle.definition.specs.Refusals.{reply_of}
 use Rattle.definition.specs.Packed.{equalizer}
 use Rattle.definition.specs.Calls.{even, NewAnswer, new_def, ResetAnswer, reset_def, SetAnswer, set_mu_cma_def, set_mu_dd_def, set_frequency_def}
