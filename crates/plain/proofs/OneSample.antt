@@ -53,6 +53,7 @@ module _ (s : EqualizeState) (w h : List Float) (x : C32) (t : Taps) (g : Beside
 
 -- ---- the whole sample
 
+-- the taps, as the definition counts them
 pub counted : (s : EqualizeState) (w h : List Float) (t : Taps) → Beside s w h t
     → let m = s.params.feedback_taps in (length w / 2 ≡ t.all) × ((length w / 2 - m ≡ t.forward) × (t.all - t.forward ≡ m))
 counted s w h t z = (omega (arith, z.weights), (omega (arith, z.weights, z.sum), omega (arith, z.sum)))

@@ -9,6 +9,7 @@ use crate::counts::Taps;
 use types::{C32, Update};
 
 // The first n numbers move up by one, and v goes in at 0. Not by `copy_within`: a sample with 15 + 5 taps took 160 ns so, and 152 by this loop.
+#[tactic(auto, using(definition_laws::proofs::Mapped::mapped_none))]
 pub(crate) fn shift(x: &mut [f32], n: usize, v: C32)
     requires { 2 * n ≤ length x.old }
     ensures { x.new ≡ shifted n v x.old }

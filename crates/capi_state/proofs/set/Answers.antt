@@ -1,4 +1,5 @@
 -- `capi_state::set` replies what the setter gives, where the numbers are known; an unknown one is found by the law named on the function.
+-- By an answer: no search takes what the setter gives of the state that was read for what it gives of `record_in raw`.
 use mathlib.Core.Path.{sym, ◌∙◌}
 use Rattle.capi_state.proofs.Laws.{set_known}
 use Rattle.capi_state.proofs.set.Goals as goal

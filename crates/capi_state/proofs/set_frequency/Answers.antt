@@ -1,4 +1,5 @@
 -- `capi_state::set_frequency` replies what `set_frequency_raw` says: its setter is served. Assumes nothing.
+-- By an answer: `set` promises a reply for each answer of a setter, and no search finds the one of a setter that is always served.
 use Rattle.std.proofs.Common.{Ok, rules}
 use Rattle.definition.specs.Calls.{set_answer, set_frequency_def}
 use Rattle.capi_numbers.specs.RawRecord.{record_in}

@@ -1,4 +1,5 @@
 -- `dot::sum` meets its contract: after b blocks the partial sums of 8 b products. Assumes nothing.
+-- By answers: in each goal `grind` with the law stops at its limit of instances.
 use mathlib.Core.Path.{◌∙◌}
 use native.Mathlib.Omega.{arith}
 use Rattle.dot.proofs.Lanes.{lanes_none, lanes_block, lanes_rest}

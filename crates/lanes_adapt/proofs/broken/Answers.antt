@@ -1,4 +1,5 @@
 -- `broken` says whether a weight is not finite: `any` asks it of each lane. Assumes nothing.
+-- By an answer: no search gives the library's law of `any` its test and what the iterator yields.
 use mathlib.Core.Path.{◌∙◌}
 use Prim.Native.Nat.{ℕ}
 use Rattle.std.proofs.Common.{rules}

@@ -1,4 +1,5 @@
 -- `update_half` steps the lanes of one half and says whether one is not finite: each turn of its loop steps one lane, by the law of that loop.
+-- By an answer: `grind` opens the record that the law is about, and does not find its parts.
 use Rattle.lanes_adapt.proofs.HalfLoop.{half_more}
 use native.Mathlib.Omega.{arith}
 use Rattle.lanes_adapt.proofs.update_half.Goals as goal

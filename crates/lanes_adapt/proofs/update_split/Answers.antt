@@ -1,4 +1,5 @@
 -- `update_split` leaves the weights after the update at its exits after a step: all lanes finite, and a lane that is not after which the weights are settled.
+-- By answers: with the laws `grind` stops at its limit of depth at one exit, and finds no proof at the other.
 use Rattle.lanes_adapt.proofs.Adaptation.{adapt_calm, adapt_settled}
 use Rattle.lanes_adapt.proofs.update_split.Goals as goal
 

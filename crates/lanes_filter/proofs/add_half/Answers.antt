@@ -1,4 +1,5 @@
 -- `add_half` adds the products of all lanes to the partial sums: each turn of its loop is a block of eight.
+-- By answers: in both goals `grind` with the law stops at its limit of instances.
 use Rattle.lanes_filter.proofs.Blocks.{onto_none, onto_block}
 use borrow.Author.Rules.{rules}
 use Rattle.lanes_filter.proofs.add_half.Goals as goal

@@ -1,4 +1,5 @@
 -- `tile` gives the powers of sixteen windows: each turn of its loop adds one square to each, and the sums are stored.
+-- By answers: `grind` opens the record that the laws are about and does not find its parts; at the return it stops at its limit of instances.
 use native.Mathlib.Omega.{arith}
 use mathlib.Core.Path.{◌≡◌}
 use Rattle.lanes_prepare.proofs.Chains.{Chained, chained_none, chained_more, chained_put}

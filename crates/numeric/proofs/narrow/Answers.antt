@@ -1,4 +1,5 @@
 -- `numeric::narrow` meets its contract: each answer is one of the four of `narrows`. Assumes nothing.
+-- By answers: the check alone proves none of the four goals.
 use mathlib.Core.Path.{◌≡◌, sym, ap, subst, ◌∙◌}
 use mathlib.Core.Bool.{not, cond}
 use Prim.Native.Nat.{ℕ, ◌+◌, ◌-◌, ◌*◌, ◌/◌, ◌%◌, ◌^◌, ◌≤◌, ◌<◌}

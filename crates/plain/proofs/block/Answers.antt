@@ -1,4 +1,5 @@
 -- `block` passes over the samples of a block: the loop's record is `Turns`.
+-- By an answer: `grind` opens the record that the law is about, and does not find that the record is accepted.
 use native.Mathlib.Omega.{arith}
 use Rattle.plain.proofs.BlockLoop.{turns_more}
 use Rattle.plain.proofs.block.Goals as goal

@@ -1,4 +1,5 @@
 -- `record_rules::all_fit` says whether every weight part fits: `all` asks it of each. Assumes nothing.
+-- By an answer, as `all_finite`'s: the same law with another test.
 use mathlib.Core.Path.{◌∙◌}
 use Rattle.std.proofs.Common.{rules}
 use Rattle.std.proofs.lemmas.Iterator.{YieldsList-from_slice}

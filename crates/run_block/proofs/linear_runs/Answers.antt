@@ -1,4 +1,5 @@
 -- `linear_runs` passes over a whole block, run after run: the loop's record is `BlockLoop`.
+-- By an answer: `grind` opens the record that the law is about, and stops at a field that is a value.
 use native.Mathlib.Omega.{arith}
 use Rattle.run_block.proofs.BlockLoop.{loop_more}
 use Rattle.run_block.proofs.linear_runs.Goals as goal

@@ -1,4 +1,5 @@
 -- `load_linear` fills empty arrays from the caller's slices: by what `split` and `squares` leave, and the law of a call's start.
+-- By an answer: `grind` with the law stops at its limit of depth.
 use Rattle.run_block.proofs.Call.{loads}
 use Rattle.run_block.proofs.load_linear.Goals as goal
 

@@ -1,4 +1,5 @@
 -- `prepare_run` puts a run's samples in and makes what depends on them alone: its four calls, joined by `prepared`.
+-- By an answer: `grind` with the law stops at its limit of case splits.
 use Rattle.run_one.proofs.Start.{prepared}
 use native.Mathlib.Omega.{arith}
 use Rattle.run_one.proofs.prepare_run.Goals as goal

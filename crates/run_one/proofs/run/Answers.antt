@@ -1,4 +1,5 @@
 -- `run` passes over the samples i .. e of a block: start, samples and end of one run, joined by `whole_run`.
+-- By an answer: `grind` opens the record that the law is about, and stops at a field that is a value.
 use Rattle.run_one.proofs.Start.{whole_run}
 use Rattle.run_one.proofs.run.Goals as goal
 

@@ -1,4 +1,5 @@
 -- `run` passes over the samples of a run: the loop's record is `RunLoop`.
+-- By answers: `grind` opens the records that the laws are about, and stops at a field that is a value, and in a turn at its limit of instances.
 use native.Mathlib.Omega.{arith}
 use Rattle.run_samples.proofs.RunLoop.{loop_none, loop_more, loop_all}
 use Rattle.run_samples.proofs.run.Goals as goal

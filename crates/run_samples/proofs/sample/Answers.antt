@@ -1,4 +1,5 @@
 -- `sample` is steps 2 to 8 of a sample on the arrays: `take`, the feedback and the mode, joined by `sampled_is`.
+-- By an answer: `grind` opens the record that the law is about, and does not find its parts.
 use Rattle.run_samples.proofs.OneSample.{sampled_is}
 use Rattle.run_samples.proofs.sample.Goals as goal
 

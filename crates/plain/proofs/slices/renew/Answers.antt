@@ -1,4 +1,5 @@
 -- `renew` replaces the weights one by one by the definition's new ones.
+-- By an answer: `grind` with the laws of a loop over numbers finds no proof of a turn.
 use Prim.Native.Nat.{◌+◌, ◌*◌, ◌/◌}
 use lib.ListN.{length}
 use mathlib.Core.Path.{◌≡◌, ◌∙◌}

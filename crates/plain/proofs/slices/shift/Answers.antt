@@ -1,12 +1,10 @@
 -- `shift` moves the first numbers up by one: the loop replaces them one by one.
-use mathlib.Core.Path.{◌≡◌, refl}
+-- By answers: `grind` with the laws of a loop over numbers finds no proof of a turn, nor of the return.
+use mathlib.Core.Path.{◌≡◌}
 use native.Mathlib.Omega.{arith}
-use Rattle.definition_laws.proofs.Mapped.{mapped_none, shift_list}
+use Rattle.definition_laws.proofs.Mapped.{shift_list}
 use Rattle.plain.proofs.Numbers.{stored, next_re, next_im}
 use Rattle.plain.proofs.slices.shift.Goals as goal
-
-pub loop-i-init : goal.loop-i-init
-loop-i-init c = (mapped_none _ _, refl, refl)
 
 pub loop-i-preserved : goal.loop-i-preserved
 loop-i-preserved c =

@@ -1,4 +1,5 @@
 -- `window_power` adds the powers of the pairs from `from` on: a fold, which `power_folded` takes to the definition's sum.
+-- By an answer: no search gives the library's law of `fold` its function and what the pairs yield.
 use Rattle.std.proofs.Common.{rules, ◌≡◌}
 use Rattle.std.specs.List.{fold, slice_range}
 use Rattle.std.proofs.lemmas.Iterator.{YieldsList-from_slice}
