@@ -75,7 +75,7 @@ fn tile(power: &mut [f32; RUN], q: &[f32; PLACES], j: usize, n: usize)
     power[j..j + 16].copy_from_slice(&acc);
 }
 
-// The powers of the windows from `from` on.
+// The powers of the windows from `from` on. By a place: a tile reads q at it too, and behind `chunks_exact_mut` a proof knows no element of `power`.
 pub fn powers(power: &mut [f32; RUN], q: &[f32; PLACES], from: usize, n: usize)
     requires { (n ≤ 64) × ((from ≤ 64) × (from % 16 ≡ 0)) }
     ensures { Between (λ i. chain_of q.now i n) from 64 power.old power.new }

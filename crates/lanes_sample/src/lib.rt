@@ -26,7 +26,8 @@ fn chain(q: &[f32; PLACES], from: usize, count: usize, forward: f32) -> f32
     q[from..from + count].iter().fold(forward, |p, v| p + *v)
 }
 
-// The sum and the power of the window at `at`: the power's chain in two parts, each beside a sum.
+// The sum and the power of the window at `at`: the power's chain in two parts, each beside a sum. A function of a chain and a sum would take six arguments and give a pair,
+// with both contracts, for two calls.
 #[tactic(auto, using(crate::proofs::Measurement::measured))]
 pub fn measure(g: Shape, at: usize, w: &Weights, h: &Window, forward: f32) -> Measured
     requires { at ≤ 63 }

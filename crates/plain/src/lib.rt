@@ -17,7 +17,8 @@ ghost use Rattle.definition.specs.Run.{run_def};
 ghost use Rattle.steps.specs.Step.{stage, did};
 ghost use Rattle.plain.specs.Taps.{Beside};
 
-// Steps 4 to 7: a sample whose sum y is finite. Cosine and sine come before the powers: they need not wait behind those long sums.
+// Steps 4 to 7: a sample whose sum y is finite. Cosine and sine come before the powers: they need not wait behind those long sums. What `hear` of `run_samples` has too is
+// `steps`' step: there the powers are at hand, `steps::follow` makes cosine and sine, and the weights are split.
 #[tactic(auto, using(crate::proofs::OneSample::heard_by, crate::proofs::OneSample::power_none))]
 fn hear(s: EqualizeState, w: &mut [f32], h: &[f32], y: C32, taps: Taps) -> Stage
     requires { Beside s w.old h.now taps }
@@ -32,7 +33,7 @@ fn hear(s: EqualizeState, w: &mut [f32], h: &[f32], y: C32, taps: Taps) -> Stage
     Stage::from(r)
 }
 
-// Steps 2 to 7, over the shifted window. The two tests stand in `run_samples` too: shared, by a `?` on the mark or with the sum as a closure, they would be longer.
+// Steps 2 to 7, over the shifted window. The two tests stand in `run_samples` too, where the reason is; here the sum comes between them.
 #[tactic(auto, using(crate::proofs::OneSample::took_blank, crate::proofs::OneSample::took_spilled, crate::proofs::OneSample::took_heard))]
 fn take(s: EqualizeState, w: &mut [f32], h: &[f32], x: C32, taps: Taps) -> Stage
     requires { Beside s w.old h.now taps }

@@ -61,7 +61,8 @@ fn hear(s: EqualizeState, call: &Call, e: Entry, f: Measured, w: &mut Weights, h
     Stage::from(r)
 }
 
-// Steps 2 to 7 of a sample. The two tests stand in `plain` too: shared, by a `?` on the mark or with the sum as a closure, they would be longer.
+// Steps 2 to 7 of a sample. The two tests stand in `plain` too, six lines here and six there: one function of both, which refuses with a mark, is ten with its contract, and
+// behind its `?` this would give a Result, which the caller takes apart.
 #[tactic(auto, using(crate::proofs::OneSample::take_blank, crate::proofs::OneSample::take_spilled, crate::proofs::OneSample::take_heard))]
 fn take(s: EqualizeState, call: &Call, e: Entry, w: &mut Weights, h: &Window) -> Stage
     ensures { Takes s call.now.shape e.at e.x e.forward e.ahead call.now.limit (arrays_of w.old h.now) w.new.re w.new.im result }

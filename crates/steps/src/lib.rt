@@ -55,9 +55,9 @@ pub struct Sampled {
 
 // The error of the mode, and the sample to feed back.
 #[derive(Clone, Copy)]
-pub struct Aim {
-    pub e: C32,
-    pub fed: C32,
+struct Aim {
+    e: C32,
+    fed: C32,
 }
 
 // The running numbers of a record.
