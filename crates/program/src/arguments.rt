@@ -25,7 +25,8 @@ impl From<usize> for Value {
     }
 }
 
-// Standard input or output, or a file, of which there is a T.
+// Standard input or output, or a file, of which there is a T. No `Option<T>`: a standard stream is no lack of one, and `Option<Name>` says whether an
+// output is wanted.
 #[derive(Clone, Copy, PartialEq, Eq, Drop)]
 pub enum Stream<T> {
     Standard,
