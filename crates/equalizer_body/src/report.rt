@@ -36,6 +36,7 @@ fn not_taken(p: Program<'_>, at: usize, v: Value, takes: &'static [u8]) -> Told 
     untaken(p, option, quoted, takes)
 }
 
+// Apart, so that the parts stand at one lifetime, as those in an array have to.
 fn untaken<'a>(p: Program<'_>, option: &'a [u8], quoted: Part<'a>, takes: &'a [u8]) -> Told {
     p.tell(&[
         Words(option),

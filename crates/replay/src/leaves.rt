@@ -40,7 +40,8 @@ impl Leaf {
 // The most taps of a line of dot_complex.
 const DOT_TAPS: u64 = 126;
 
-// The words of a line that has N.
+// The words of a line that has N. Two leaves of one form, as `derotate` and `rotate`, have eight lines; by a function that takes theirs they would
+// have thirteen.
 fn line<const N: usize>(w: &[u64]) -> Option<[u64; N]> {
     w.try_into().ok()
 }

@@ -11,6 +11,7 @@ pub(crate) const RECORD: usize = 14;
 
 type Record = [u64; RECORD];
 
+// A function, as `words_of` is: an impl of `TryFrom` or `From` has to name a type of this crate.
 fn record_of(r: &Record) -> Option<EqualizeState> {
     let [
         k,
