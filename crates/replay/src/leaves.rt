@@ -41,7 +41,7 @@ impl Leaf {
 const DOT_TAPS: u64 = 126;
 
 // The words of a line that has N. Two leaves of one form, as `derotate` and `rotate`, have eight lines; by a function that takes theirs they would
-// have thirteen.
+// have twelve.
 fn line<const N: usize>(w: &[u64]) -> Option<[u64; N]> {
     w.try_into().ok()
 }
