@@ -62,8 +62,8 @@ fn add<const N: usize>(acc: &mut [f32; N], q: &[f32; PLACES], from: usize)
     }
 }
 
-// The powers of sixteen windows side by side. By an index: turn i adds sixteen squares from j + i on, and `q[j..].windows(16).take(n)` would hand
-// `add` a slice, whose length and place would stand in contracts in the index's stead.
+// The powers of sixteen windows side by side. By an index: turn i adds sixteen squares from j + i on. `q[j..].array_windows::<16>().take(n)` gives the
+// same sixteen in the longer line; `add` would be without its `requires`.
 fn tile(power: &mut [f32; RUN], q: &[f32; PLACES], j: usize, n: usize)
     requires { (j ≤ 48) × (n ≤ 64) }
     ensures { Between (λ i. chain_of q.now i n) j (j + 16) power.old power.new }

@@ -27,7 +27,7 @@ use Rattle.definition.specs.Rules.{rule_r4}
 use Rattle.definition_laws.proofs.Exits.{stage-blank, stage-spilled, stage-heard}
 use Rattle.definition_laws.proofs.Accept.{accepted_is}
 use Rattle.definition_laws.proofs.Kept.{advance_r4}
-use Rattle.lanes.specs.Arrays.{Arrays, arrays}
+use Rattle.lanes.specs.Arrays.{Arrays}
 use Rattle.lanes.specs.Holds.{Holds}
 use Rattle.lanes_sample.specs.Measures.{Measures}
 use Rattle.lanes.specs.Adapts.{Adapts}
