@@ -65,8 +65,8 @@ fn product_at<P: Part>(t: Taps, i: usize) -> f32
     P::product(complex::at(t.x, i), complex::at(t.w, i))
 }
 
-// Adds the products i .. i + m - 1, at most eight, in eight turns with a test in each: for a block of eight there is none in what is built. No function over a
-// closure for this loop and the like in lanes_filter and lanes_prepare: in a generic function a closure needs a contract of its own, so that each would be longer.
+// Adds the products i .. i + m - 1, at most eight, in eight turns with a test in each. No function over a closure for this loop and the like in lanes_filter
+// and lanes_prepare: in the two that are generic over a part the closure would need a contract of its own, so that they would be longer.
 fn add<P: Part>(a: &mut [f32; 8], t: Taps, i: usize, m: usize)
     requires { (m ≤ 8) × (i + m ≤ t.n) }
     ensures { Added (product_at P.product t.entry.x.now t.entry.w.now) i m a.old a.new }
@@ -90,7 +90,7 @@ fn sum<P: Part>(t: Taps) -> f32
     dot_complex_tree(&a)
 }
 
-// The sum. One pass for each component compiles to wider vectors.
+// The sum, a pass for each component.
 #[tactic(auto, unfolding(definition::specs::Slices::filter_sum))]
 fn filter_sum(t: Taps) -> C32
     ensures { result ≡ filter_sum t.entry.n t.entry.x.now t.entry.w.now }
