@@ -29,7 +29,7 @@ pub fn put(x: &mut [f32], i: usize, v: C32)
     x[j + 1] = v.im;
 }
 
-// a·conj(b), its sums in the specification's order: no `conj` before a `*`, which would take the differences of their negatives.
+// a·conj(b), each sum as the specification writes it: no `conj` before a `*`, which would ask for a law of negatives.
 pub fn times_conj(a: C32, b: C32) -> C32
     ensures { result ≡ complex (a.re *f b.re +f a.im *f b.im) (a.im *f b.re -f a.re *f b.im) }
 {

@@ -85,7 +85,7 @@ pub fn powers(power: &mut [f32; RUN], q: &[f32; PLACES], from: usize, n: usize)
     }
 }
 
-// The step sizes by mu for the windows from .. to. The powers by an index, as in `add`.
+// The step sizes by mu for the windows from .. to. The powers by an index, as in `add`; from and to, and no parts: `Between` speaks of the whole array.
 #[tactic(auto, using(lanes::proofs::Between::between_more))]
 fn divide(steps: &mut [f32; RUN], power: &[f32; RUN], from: usize, to: usize, mu: f32)
     requires { (from ≤ to) × (to ≤ 64) }

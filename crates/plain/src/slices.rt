@@ -36,6 +36,7 @@ pub(crate) fn window_power(x: &[f32], from: usize, first: f32, n: usize) -> f32
 
 // The weights renewed. By their places: of `as_chunks_mut` the library says what the pairs hold at first, and not what the slice holds once they are
 // written.
+#[tactic(auto, using(definition_laws::proofs::Mapped::mapped_none), unfolding(definition::specs::Slices::updated))]
 fn renew(w: &mut [f32], x: &[f32], g: C32)
     requires { length w.old ≤ length x.now }
     ensures { w.new ≡ updated (length w.old / 2) g w.old x.now }

@@ -89,7 +89,7 @@ fn store_linear(call: &Call, weights: &mut [f32], window: &mut [f32], w: &Weight
     lanes_load::joined(window, &h.values, Window::HOME, n, m);
 }
 
-// A block by n forward and m feedback taps: arrays, all runs, and back.
+// A block by n forward and m feedback taps: arrays, all runs, and back. The taps are counted in `run_linear`, where a wrong count costs the check of a small crate.
 #[tactic(auto, using(crate::proofs::Call::asked_shape, crate::proofs::Call::asked_long, crate::proofs::Call::call_is))]
 pub fn linear_state(
     state: EqualizeState,

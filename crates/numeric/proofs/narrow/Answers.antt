@@ -1,4 +1,4 @@
--- `numeric::narrow` meets its contract: each answer is one of the four of `narrows`. Assumes nothing.
+-- `numeric::narrow` meets its contract: a NaN by `of_nan`, else one of the four cases of `narrows`. Assumes nothing.
 -- By answers: the check alone proves none of the four goals.
 use mathlib.Core.Path.{◌≡◌, sym, ap, subst, ◌∙◌}
 use mathlib.Core.Bool.{not, cond}

@@ -1,18 +1,14 @@
 -- `renew` replaces the weights one by one by the definition's new ones.
--- By an answer: `grind` with the laws of a loop over numbers finds no proof of a turn.
-use Prim.Native.Nat.{◌+◌, ◌*◌, ◌/◌}
-use lib.ListN.{length}
+-- By an answer: `grind` with the laws of a loop over numbers finds no proof of a turn, the one goal left.
+use Prim.Native.Nat.{◌+◌, ◌*◌}
 use mathlib.Core.Path.{◌≡◌, ◌∙◌}
 use native.Mathlib.Omega.{arith}
-use Rattle.definition.specs.Slices.{part, new_re, new_im, updated}
+use Rattle.definition.specs.Slices.{part, new_re, new_im}
 use Rattle.numeric.proofs.Leaves.{kept_tiny}
 use Rattle.steps.specs.Weight.{lane_re, lane_im}
-use Rattle.definition_laws.proofs.Mapped.{mapped_none, part_even, part_odd}
+use Rattle.definition_laws.proofs.Mapped.{part_even, part_odd}
 use Rattle.plain.proofs.Numbers.{stored, still_re, still_im}
 use Rattle.plain.proofs.slices.renew.Goals as goal
-
-pub loop-i-init : goal.loop-i-init
-loop-i-init c = mapped_none _ _
 
 pub loop-i-preserved : goal.loop-i-preserved
 unfolding lane_re lane_im
@@ -25,8 +21,3 @@ loop-i-preserved c =
     let a : u.result.re ≡ part R I (2 * i) = u.ensures.re ∙ kept_tiny _ ∙ cc (still_re i m, part_even R I i) in
     let b : u.result.im ≡ part R I (2 * i + 1) = u.ensures.im ∙ kept_tiny _ ∙ cc (still_im i m, part_odd R I i) in
     stored i m _ c.put.ensures a b (omega arith)
-
-pub returns : goal.returns
-unfolding updated
-returns c = let e : c.loop-i.i ≡ length c.args.w.now / 2 = omega arith in
-    rw e at c.loop-i.invariant.is

@@ -1,12 +1,10 @@
 -- `Grid::level` gives the level at the floor: one comparison more, one level more.
-use Rattle.std.proofs.Common.{◌≡◌, ◌<◌, arith, rules}
+-- By an answer: with the laws named on the function `search` still gives up where the two ways of a turn join.
+use Rattle.std.proofs.Common.{◌<◌, arith, rules}
 use lib.Ieee.{nan}
-use Rattle.constellation_qam.proofs.Levels.{first_at, next_at}
+use Rattle.constellation_qam.proofs.Levels.{next_at}
 use Rattle.constellation_qam.proofs.grid.Grid.level.Goals as goal
 use Rattle.constellation_qam.proofs.grid.Grid.level.Goals.{then-t-k, else-t-k}
-
-pub loop-k-init : goal.loop-k-init
-loop-k-init g c = first_at _ _ _ _ (search rules) (omega arith)
 
 pub loop-k-preserved : goal.loop-k-preserved
 loop-k-preserved g c =
@@ -15,6 +13,3 @@ loop-k-preserved g c =
       | then-t-k w ↦ next_at _ _ _ _ _ _ _ c.loop-k.auto.k top (search rules) (omega arith) w.if-t-k.true w.r-is c.loop-k.invariant
       | else-t-k w ↦ next_at _ _ _ _ nan _ _ c.loop-k.auto.k top (search rules) (omega arith) w.if-t-k.false w.r-is c.loop-k.invariant
     ]
-
-pub returns : goal.returns
-returns g c = let e : c.loop-k.k ≡ g.row.M = omega (arith, c.args.self.now.small) in rw (c.place-t.ensures, e) at (c.loop-k.invariant nan)
