@@ -7,8 +7,8 @@ ghost use Rattle.lanes.specs.Holds.{Limits};
 
 use lanes::{LANES, Split, Weights};
 
-// count complex values of x, from `from` on, into the lanes from `at` on. By an index: one number is a place in x and in both parts of s, and behind a `zip` of `iter_mut` a proof
-// knows no element.
+// count complex values of x, from `from` on, into the lanes from `at` on. From and count, here and in `joined`, and no part of x lent: `Loaded` and `Joined` speak of the whole of it.
+// By an index: one number is a place in x and in both parts of s, and behind a `zip` of `iter_mut` a proof knows no element.
 pub fn split<const N: usize>(s: &mut Split<N>, at: usize, x: &[f32], from: usize, count: usize)
     requires count_in_bounds { at + count ≤ N }
     requires count_in_bounds_2 { 2 * (from + count) ≤ length x.now }
