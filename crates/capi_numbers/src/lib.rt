@@ -77,8 +77,11 @@ impl TryFrom<EqSettings> for EqParams {
     fn try_from(p: EqSettings) -> Result<EqParams, UnknownNumber>
         ensures { result ≡ read_settings p }
     {
-        EqConstellation::try_from(p.constellation)?;
-        Ok(p.params())
+        let constellation = EqConstellation::try_from(p.constellation)?;
+        Ok(EqParams {
+            constellation,
+            ..p.params()
+        })
     }
 }
 
@@ -124,9 +127,13 @@ impl TryFrom<EqRecord> for EqualizeState {
     fn try_from(r: EqRecord) -> Result<EqualizeState, UnknownNumber>
         ensures { result ≡ read_record r }
     {
-        EqParams::try_from(r.settings)?;
-        EqMode::try_from(r.mode)?;
-        Ok(r.state())
+        let params = EqParams::try_from(r.settings)?;
+        let mode = EqMode::try_from(r.mode)?;
+        Ok(EqualizeState {
+            params,
+            mode,
+            ..r.state()
+        })
     }
 }
 
