@@ -14,19 +14,15 @@ pub use program_words::numbers;
 // The exit status of a program: all was served; something failed; it was asked for what it does not do.
 #[derive(Clone, Copy, PartialEq, Eq)]
 pub enum Status {
-    Served,
-    Failed,
-    Usage,
+    Served = 0,
+    Failed = 1,
+    Usage = 2,
 }
 
 impl From<Status> for i32 {
     ghost from_gives = { λ status n. (n ≡ status_number status) × ExitStatus n };
 
     fn from(status: Status) -> i32 {
-        match status {
-            Status::Served => 0,
-            Status::Failed => 1,
-            Status::Usage => 2,
-        }
+        status as i32
     }
 }
