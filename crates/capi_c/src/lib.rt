@@ -1,4 +1,5 @@
 // The equalizer for C and Rust: the exported functions of `capi`. Slices cross as pointer and length.
+// Each call of `capi` once more, with its clauses: a static library exports functions of its own alone, and `capi`, on which `capi_demands` stands, has to be a library.
 #![tactic(auto)]
 
 ghost use Rattle.std.specs.Prelude.{◌≡◌};
