@@ -54,6 +54,7 @@ impl Path {
 }
 
 // One call from bytes to bytes. x and y are room for the floats of the input and of the output. A refusal leaves all but x as it was.
+// Record and slices one by one, as the specification has those of the equalizing calls.
 #[tactic(auto, unfolding(crate::specs::Block::block_def))]
 pub fn block(
     path: Path,
