@@ -5,7 +5,7 @@ use program::files::{OpenInput, Output};
 use program::messages::{Program, Told};
 use program_look::Seen;
 
-#[derive(Drop)]
+#[derive(Default, Drop)]
 pub(crate) struct Outputs {
     symbols: Option<Output>,
     marks: Option<Output>,
@@ -15,11 +15,7 @@ pub(crate) struct Outputs {
 impl Outputs {
     // Makes all outputs, or none.
     pub(crate) fn open(run: &Run<'_>, input: &OpenInput) -> Result<Outputs, Told> {
-        let mut outputs = Outputs {
-            symbols: None,
-            marks: None,
-            curve: None,
-        };
+        let mut outputs = Outputs::default();
         match outputs.make(run, input.look(run.program.rt)) {
             Ok(()) => Ok(outputs),
             Err(told) => {
