@@ -2,7 +2,7 @@
 ghost use Rattle.std.specs.Prelude.{◌≡◌, ◌+◌, ◌≤◌, length, drop};
 ghost use Rattle.program_words.specs.Words.{before, place_in};
 
-// The place of the first byte b from a place on, or the end of the text.
+// The place of the first byte b from a place on, or the end of the text. The program here asks from 0; what it promises stays.
 #[tactic(auto, unfolding(crate::specs::Words::before))]
 pub fn end_of(t: &[u8], from: usize, b: u8) -> usize
     ensures { result ≡ from + before b (drop from t.now) }
