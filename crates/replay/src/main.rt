@@ -53,8 +53,8 @@ fn main(rt: HostRuntime) -> Result<()> {
         Leaf::new("others", 0, others::agrees),
     ];
     let mut total = Tally::default();
-    for leaf in &leaves[..] {
-        replay(&rt, &mut total, leaf)?;
+    for leaf in leaves {
+        replay(&rt, &mut total, &leaf)?;
     }
     println!(rt; "total: {total}")
 }
