@@ -20,7 +20,7 @@ const MOST_WORDS: usize = 2 * RECORD + 3 + 8 * MOST_TAPS + 2 * FLOATS + MOST_SAM
 
 pub(crate) type Words = ArrayVec<u64, MOST_WORDS>;
 
-// A loop: a `collect` would answer an error where there is no room, and there is room for each.
+// A loop: a `collect` or an `extend` would answer an error where there is no room, and there is room for each.
 pub(crate) fn floats(words: &[u64]) -> Floats
     requires { length words.now ≤ FLOATS }
     ensures { length result.items ≡ length words.now }
