@@ -53,24 +53,22 @@ pub fn squares(h: &mut Window, from: usize, to: usize)
 }
 
 // Adds N values to N sums. By an index: behind a `zip` of `iter_mut` a proof knows no element.
-fn add<const N: usize>(acc: &mut [f32; N], q: &[f32; PLACES], from: usize)
-    requires { from + N ≤ 288 }
-    ensures { Added (λ i. get_or q.now i nan) from N acc.old acc.new }
+fn add<const N: usize>(acc: &mut [f32; N], q: &[f32; N])
+    ensures { Added (λ i. get_or q.now i nan) 0 N acc.old acc.new }
 {
     for (k, s) in acc.iter_mut().enumerate() {
-        *s += q[from + k];
+        *s += q[k];
     }
 }
 
-// The powers of sixteen windows side by side. By an index: turn i adds sixteen squares from j + i on. `q[j..].array_windows::<16>().take(n)` gives the
-// same sixteen in the longer line; `add` would be without its `requires`.
+// The powers of sixteen windows side by side: each run of sixteen squares from j on, n of them, adds one to each.
 fn tile(power: &mut [f32; RUN], q: &[f32; PLACES], j: usize, n: usize)
     requires { (j ≤ 48) × (n ≤ 64) }
     ensures { Between (λ i. chain_of q.now i n) j (j + 16) power.old power.new }
 {
     let mut acc = [0.0f32; 16];
-    for i in 0..n {
-        add(&mut acc, q, j + i);
+    for w in q[j..].array_windows::<16>().take(n) {
+        add(&mut acc, w);
     }
     power[j..j + 16].copy_from_slice(&acc);
 }

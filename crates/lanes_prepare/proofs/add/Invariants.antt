@@ -5,4 +5,4 @@ use lib.ListN.{get_or}
 use Rattle.lanes_prepare.proofs.add.Given as goal
 
 abbrev pub invariant-loop-k : goal.invariant-loop-k
-invariant-loop-k g l = Added (λ i. get_or l.q i nan) l.from l.k l.initial.acc l.acc
+invariant-loop-k g l = Added (λ i. get_or l.q i nan) 0 l.k l.initial.acc l.acc
