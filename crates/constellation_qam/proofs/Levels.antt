@@ -144,9 +144,9 @@ module _ {A : Type 0} (xs : List A) (t : Float) where
   first_at m y l s d = get_or_default xs 0 y d l ∙ ap (λ (n : ℕ). get_or xs n d) (sym (none t)) ∙ ap (λ (n : ℕ). get_or xs (held_to n t) d) (sym s)
 
   -- after one more
-  pub next_at : (k m : ℕ) (y r r' : A) {c : Bool}
-      → 1 ≤ k → k < 8 → k < length xs → m ≡ k → reached k t ≡ c → r' ≡ cond c (get_or xs k y) r → ((d : A) → r ≡ get_or xs (held_to (k - 1) t) d) → (d : A) → r' ≡ get_or xs (held_to m t) d
-  next_at k m y r r' {c} a b l s p e h d = e ∙ go c p ∙ ap (λ (n : ℕ). get_or xs (held_to n t) d) (sym s)
+  pub next_at : (k m : ℕ) (y r r' : A)
+      → 1 ≤ k → k < 8 → k < length xs → m ≡ k → r' ≡ cond (reached k t) (get_or xs k y) r → ((d : A) → r ≡ get_or xs (held_to (k - 1) t) d) → (d : A) → r' ≡ get_or xs (held_to m t) d
+  next_at k m y r r' a b l s e h d = e ∙ go (reached k t) refl ∙ ap (λ (n : ℕ). get_or xs (held_to n t) d) (sym s)
     where
       go : (c : Bool) → reached k t ≡ c → cond c (get_or xs k y) r ≡ get_or xs (held_to k t) d
       go true p = get_or_default xs k y d l ∙ ap (λ (n : ℕ). get_or xs n d) (sym (up_to k t a b p))

@@ -15,6 +15,13 @@ use crate::grid::{Grid, QAM16, QAM64};
 pub use crate::grid::{QAM16_LEVELS, QAM64_LEVELS};
 use types::{C32, Qam};
 
+// A select: by an `if` in the loop there is a branch.
+fn pick(b: bool, yes: f32, no: f32) -> f32
+    ensures { result ≡ cond b yes no }
+{
+    if b { yes } else { no }
+}
+
 impl<const M: usize> Grid<M> {
     // The place of a part v on the grid.
     fn place(&self, v: f32) -> f32
@@ -49,7 +56,7 @@ impl<const M: usize> Grid<M> {
         let t = self.place(v);
         let mut r = self.levels[0];
         for k in 1..M {
-            r = if t >= k as f32 { self.levels[k] } else { r };
+            r = pick(t >= k as f32, self.levels[k], r);
         }
         r
     }

@@ -2,13 +2,13 @@
 #![tactic(auto)]
 
 ghost use Rattle.std.specs.Prelude.{◌≡◌, ◌+◌, ◌<◌, ◌≤◌, set};
-ghost use Rattle.std.specs.List.{fold, slice_range};
+ghost use Rattle.std.specs.List.{fold};
 ghost use Rattle.definition.specs.Floats.{norm, ◌+f◌};
 ghost use Rattle.lanes.specs.Arrays.{arrays_of};
 ghost use Rattle.lanes_sample.specs.Measures.{Measures};
 
 use dot::{Im, Re};
-use lanes::{PLACES, Shape, Weights, Window};
+use lanes::{Shape, Weights, Window};
 use types::C32;
 
 // The filter sum and the window's power.
@@ -18,16 +18,14 @@ pub struct Measured {
     pub power: f32,
 }
 
-// forward, then q[from], q[from + 1] .. added in order.
-fn chain(q: &[f32; PLACES], from: usize, count: usize, forward: f32) -> f32
-    requires { from + count ≤ 288 }
-    ensures { result ≡ fold (λ p v. p +f v) forward (slice_range q.now from (from + count)) }
+// forward, then each of q, added in order.
+fn chain(q: &[f32], forward: f32) -> f32
+    ensures { result ≡ fold (λ p v. p +f v) forward q.now }
 {
-    q[from..from + count].iter().fold(forward, |p, v| p + *v)
+    q.iter().fold(forward, |p, v| p + *v)
 }
 
-// The sum and the power of the window at `at`: the power's chain in two parts, each beside a sum. A function of a chain and a sum would take six arguments and give a pair,
-// with both contracts, for two calls.
+// The sum and the power of the window at `at`.
 #[tactic(auto, using(crate::proofs::Measurement::measured))]
 pub fn measure(g: Shape, at: usize, w: &Weights, h: &Window, forward: f32) -> Measured
     requires { at ≤ 63 }
@@ -35,14 +33,12 @@ pub fn measure(g: Shape, at: usize, w: &Weights, h: &Window, forward: f32) -> Me
 {
     let p = g.sums(at);
     let back = at + Window::FED;
-    let half = g.m / 2;
-    let p1 = chain(&h.squares, back, half, forward);
+    let power = chain(&h.squares[back..back + g.m], forward);
     let re = lanes_filter::dot_split::<Re>(h, w, p.forth, p.fed);
-    let p2 = chain(&h.squares, back + half, g.m - half, p1);
     let im = lanes_filter::dot_split::<Im>(h, w, p.forth, p.fed);
     Measured {
         y: C32 { re, im },
-        power: p2,
+        power,
     }
 }
 
