@@ -18,7 +18,8 @@ pub onto_none : (p : ℕ → Float) (l : List Float) → length l ≡ 8 → Onto
 unfolding lane_from
 onto_none p l h = record { long = h; sums = λ k b. refl }
 
-onto_more : (p : ℕ → Float) (n : ℕ) {l₀ l l' : List Float} → n % 8 ≡ 0 → Onto p n l₀ l → Added p n 8 l l' → Onto p (n + 8) l₀ l'
+-- the next block of eight
+pub onto_more : (p : ℕ → Float) (n : ℕ) {l₀ l l' : List Float} → n % 8 ≡ 0 → Onto p n l₀ l → Added p n 8 l l' → Onto p (n + 8) l₀ l'
 unfolding lane_from
 onto_more p n {l₀} {l} {l'} z o a = record {
   long = a.long ∙ o.long;
@@ -33,9 +34,3 @@ pub onto_tree : (p : ℕ → Float) (n : ℕ) (q : ℕ → Float) (m : ℕ) {l l
 unfolding sum_two
 onto_tree p n q m {l} {l'} a b =
     tree_cong (λ k. get_or l' k nan) (λ k. lane_from (lane_from zero32 p k (n / 8)) q k (m / 8)) (λ k h. rw (b.sums k h, a.sums k h, get_or-replicate 8 k zero32 nan h))
-
--- the next block of eight
-pub onto_block : (p : ℕ → Float) (b : ℕ) {l₀ l l' : List Float} → Onto p (8 * b) l₀ l → Added p (8 * b) 8 l l' → Onto p (8 * (b + 1)) l₀ l'
-onto_block p b o a =
-    let e : 8 * (b + 1) ≡ 8 * b + 8 = omega arith in
-    rw e (onto_more p (8 * b) (omega arith) o a)

@@ -5,6 +5,9 @@ use Rattle.types.specs.Bits.{zero32}
 use Rattle.definition.specs.Floats.{◌+f◌}
 use Rattle.definition.specs.Slices.{tree}
 use Rattle.dot.specs.Parts.{product_re, product_im}
+use Rattle.lanes.specs.declared.Half.{Half}
+use Rattle.lanes.specs.declared.Split.{Split}
+use Rattle.lanes.specs.declared.Window.{Window}
 
 -- the part p of window value a + i times weight o + i
 abbrev pub split_at : (Float → Float → Float → Float → Float) → List Float → List Float → List Float → List Float → ℕ → ℕ → ℕ → Float
@@ -15,6 +18,10 @@ split_re = split_at product_re
 
 abbrev pub split_im : List Float → List Float → List Float → List Float → ℕ → ℕ → ℕ → Float
 split_im = split_at product_im
+
+-- the part p of window value i times weight i of a half
+abbrev pub split_of : (Float → Float → Float → Float → Float) → Window → Split 144 → Half → ℕ → Float
+split_of p h w a = split_at p h.values.re h.values.im w.re w.im a.at a.from
 
 -- partial k from a on: a, then p k, p (8 + k), .., b of them
 unfoldable pub lane_from : Float → (ℕ → Float) → ℕ → ℕ → Float

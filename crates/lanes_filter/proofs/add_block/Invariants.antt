@@ -1,7 +1,7 @@
 -- `add_block` adds eight products to the eight partial sums: each turn of its loop adds one.
-use Rattle.lanes_filter.specs.Split.{split_at}
+use Rattle.lanes_filter.specs.Split.{split_of}
 use Rattle.dot.specs.Added.{Added}
 use Rattle.lanes_filter.proofs.add_block.Given as goal
 
 abbrev pub invariant-loop-k : goal.invariant-loop-k
-invariant-loop-k g l = Added (split_at g.P.Part.product l.h.values.re l.h.values.im l.w.re l.w.im l.p.at l.p.from) l.i l.k l.initial.acc l.acc
+invariant-loop-k g l = Added (split_of g.P.Part.product l.t.h.now l.t.w.now l.t.p) l.i l.k l.initial.acc l.acc

@@ -1,7 +1,14 @@
 -- `add_half` adds the products of all lanes to the partial sums: each turn of its loop is a block of eight.
-use Prim.Native.Nat.{◌*◌}
-use Rattle.lanes_filter.specs.Split.{split_at, Onto}
+use Rattle.std.proofs.Common.{◌≡◌, ◌-◌, ◌%◌, ◌≤◌}
+use Rattle.lanes_filter.specs.Split.{split_of, Onto}
 use Rattle.lanes_filter.proofs.add_half.Given as goal
 
-abbrev pub invariant-loop-b : goal.invariant-loop-b
-invariant-loop-b g l = Onto (split_at g.P.Part.product l.h.values.re l.h.values.im l.w.re l.w.im l.p.at l.p.from) (8 * l.b) l.initial.acc l.acc
+abbrev pub invariant-loop-i : goal.invariant-loop-i
+invariant-loop-i g l = record {
+  most : l.i ≤ l.t.p.lanes;
+  blocks : l.i % 8 ≡ 0;
+  done : Onto (split_of g.P.Part.product l.t.h.now l.t.w.now l.t.p) l.i l.initial.acc l.acc;
+}
+
+abbrev pub decreases-loop-i : goal.decreases-loop-i
+decreases-loop-i g l = l.t.p.lanes - l.i
