@@ -1,5 +1,5 @@
 -- `tile` gives the powers of sixteen windows: each turn of its loop adds one square to each, and the sums are stored.
--- By answers: `grind` opens the record that the laws are about and does not find its parts.
+-- By answers: with the laws named on the function neither goal is found, nor then the return.
 use native.Mathlib.Omega.{arith}
 use lib.ListN.{drop, length-drop}
 use Rattle.std.proofs.Common.{◌≡◌, ◌∙◌, ◌-◌, ◌+◌, ap, drop-drop, take_all}
