@@ -65,7 +65,8 @@ fn product_at<P: Part>(t: Taps, i: usize) -> f32
     P::product(complex::at(t.x, i), complex::at(t.w, i))
 }
 
-// Adds the products i .. i + m - 1, at most eight, in eight turns with a test in each. No function over a closure for this loop and the like in lanes_filter
+// Adds the products i .. i + m - 1, at most eight, in eight turns with a test in each: over `a[..m]`, whose length is no constant, the plain path took 7 % more
+// with 31 + 15 taps. No function over a closure for this loop and the like in lanes_filter
 // and lanes_prepare: in the two that are generic over a part the closure would need a contract of its own, so that they would be longer.
 fn add<P: Part>(a: &mut [f32; 8], t: Taps, i: usize, m: usize)
     requires { (m ≤ 8) × (i + m ≤ t.n) }

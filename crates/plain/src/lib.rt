@@ -17,7 +17,8 @@ ghost use Rattle.definition.specs.Run.{run_def};
 ghost use Rattle.steps.specs.Step.{stage, did};
 ghost use Rattle.plain.specs.Taps.{Beside};
 
-// Steps 4 to 7: a sample whose sum y is finite. Cosine and sine come before the powers: they need not wait behind those long sums. What `hear` of `run_samples` has too is
+// Steps 4 to 7: a sample whose sum y is finite. Cosine and sine come before the powers, by `steps::step`: by `steps::follow`, behind
+// those long sums, a sample with 3 taps took 16 % more, and 7 % with 63. What `hear` of `run_samples` has too is
 // `steps`' step: there the powers are at hand, `steps::follow` makes cosine and sine, and the weights are split.
 #[tactic(auto, using(crate::proofs::OneSample::heard_by, crate::proofs::OneSample::power_none))]
 fn hear(s: EqualizeState, w: &mut [f32], h: &[f32], y: C32, taps: Taps) -> Stage
