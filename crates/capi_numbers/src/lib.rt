@@ -9,7 +9,7 @@ use types::{
     EqConstellation, EqMode, EqParams, EqualizeState, Equalized, Error, Lengths, UnknownNumber,
 };
 
-// The settings. Constellations: 0 BPSK, 1 QPSK, 2 8-PSK, 3 16-QAM, 4 64-QAM.
+// The settings as numbers, for C. Constellations: 0 BPSK, 1 QPSK, 2 8-PSK, 3 16-QAM, 4 64-QAM.
 #[repr(C)]
 #[derive(Clone, Copy, Default)]
 pub struct EqSettings {
@@ -21,7 +21,7 @@ pub struct EqSettings {
     pub cma_symbols: u32,
 }
 
-// The record. Modes: 0 Cma, 1 Decision.
+// The record as numbers, for C. Modes: 0 Cma, 1 Decision.
 #[repr(C)]
 #[derive(Clone, Copy, Default)]
 pub struct EqRecord {

@@ -48,7 +48,7 @@ impl<const M: usize> Grid<M> {
     }
 
     // The level nearest to a part v, by comparisons that select it. Not `self.levels[self.index(v)]`: a sample of 16-QAM took 96 ns so, and 92 by this loop. No
-    // `fold`: a closure in this generic block would need a `requires` and an `ensures` of its own.
+    // `fold`: in this generic block its closure, which takes a level by its place, would need a `requires` and an `ensures` of its own.
     #[tactic(auto, using(crate::proofs::Levels::first_at, crate::proofs::Levels::next_at))]
     fn level(&self, v: f32) -> f32
         ensures { result ≡ level_on M self.now v }
@@ -61,7 +61,7 @@ impl<const M: usize> Grid<M> {
         r
     }
 
-    // The point nearest to y, part by part. No `map`: of a closure in this generic block nothing is known without a contract of its own.
+    // The point nearest to y, part by part. No `map`: in this generic block a closure that calls a function would need a contract of its own.
     fn point(&self, y: C32) -> C32
         ensures { result ≡ complex
             (level_on M self.now y.re)

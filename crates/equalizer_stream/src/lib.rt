@@ -324,7 +324,7 @@ impl Stream<'_> {
         Ok(())
     }
 
-    // Equalizes the samples that were read, by calls of a block.
+    // Equalizes the samples that were read, by calls of a block. By places: a call takes the same part of five arrays.
     fn calls(&mut self, room: &mut Room, read: Span) -> Served {
         let block = self.ways.block();
         for at in (read.at..read.to).step_by(block) {

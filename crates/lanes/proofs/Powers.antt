@@ -1,5 +1,5 @@
 -- The window's power from squares made ahead. Assumes nothing.
-use Prim.Native.Nat.{ℕ, zero, suc, ◌+◌, ◌-◌, ◌≤◌}
+use Prim.Native.Nat.{ℕ, zero, suc, ◌+◌, ◌≤◌}
 use mathlib.Core.Path.{◌≡◌, sym, ◌∙◌, ap}
 use mathlib.Core.List.{List}
 use native.Mathlib.Omega.{arith}
@@ -31,15 +31,3 @@ unfolding power
 ahead_power q at n h s =
     let e : 0 + n ≡ n = omega arith in
     chain_power q at h 0 n s ∙ ap (power h) e
-
--- the chain in two parts
-pub squares_left : (q : List Float) (from : ℕ) (h : List Float) (base a count : ℕ) → a ≤ count → Squares q from h base count → Squares q from h base a
-squares_left q from h base a count l s = record { is = λ j g. s.is j (omega arith) }
-
-pub squares_right : (q : List Float) (from : ℕ) (h : List Float) (base a count : ℕ) → a ≤ count → Squares q from h base count → Squares q (from + a) h (base + a) (count - a)
-squares_right q from h base a count l s = record {
-  is = λ j g.
-      let e : from + a + j ≡ from + (a + j) = omega arith in
-      let f : base + a + j ≡ base + (a + j) = omega arith in
-      rw (e, f) (s.is (a + j) (omega arith));
-}
