@@ -6,7 +6,7 @@ ghost use Rattle.std.specs.Float.Ieee.{lt};
 ghost use Rattle.types.specs.Bits.{one32};
 ghost use Rattle.lanes.specs.Adapts.{Adapts};
 ghost use Rattle.lanes_adapt.specs.Settled.{Settled, ruined};
-ghost use Rattle.lanes_adapt.specs.Steps.{any_of, broken_at, clear_in, clear_of, lane_im, lane_re, Replaced, step_im, step_re, uneven};
+ghost use Rattle.lanes_adapt.specs.Steps.{any_of, broken_at, clear_in, clear_of, Replaced, step_im, step_re, uneven};
 
 use lanes::{Half, Halves, LANES, Weights, Window};
 use types::{C32, Update};

@@ -1,7 +1,6 @@
 // Loops over the weights and the window. `shift` and `window_power` take a count and not a part of the slice: so the definition says them, of the whole window,
 // and with the part lent a law would have to put it back into the whole. `2 * n ≤ length` stands in two contracts: a name for it would be no shorter.
 ghost use Rattle.std.specs.Prelude.{◌≡◌, ◌+◌, ◌*◌, ◌/◌, ◌<◌, ◌≤◌, length};
-ghost use Rattle.definition.specs.Floats.{◌+f◌, ◌-f◌, ◌*f◌, flush};
 ghost use Rattle.definition.specs.Slices.{shifted, power as powerDef, updated};
 ghost use Rattle.definition.specs.Sample.{adapted};
 
