@@ -1,6 +1,6 @@
 -- The refusals, as one table: every number from every operation that tests it, what it returns, and that all slices and the record are as they
 -- came; two causes at once for each order; and what the operations leave where they serve.
-use Rattle.std.specs.Prelude.{ℕ, ◌+◌, ◌*◌, Bool, true, false, not, ◌&&◌, List, [], ◌∷◌, replicate, set, eqb, Float, Ok, Err}
+use Rattle.std.specs.Prelude.{ℕ, ◌+◌, ◌*◌, Bool, true, false, not, ◌&&◌, ◌||◌, List, [], ◌∷◌, replicate, set, eqb, Float, Ok, Err}
 use Rattle.std.specs.Float.{nan, inf}
 use Rattle.types.specs.declared.EqMode.{EqMode}
 use Rattle.types.specs.declared.EqMode.TheVariants.{Cma, Decision}
@@ -230,6 +230,30 @@ accepted_rows =
     ∷ eqb (all_taps uneven) 4 ∷ eqb (forward uneven) 3
     ∷ []
 
+-- ---- R3 of one weight part by its bits, at the first, a middle and the last place of 3 + 1 and of 63 + 63 taps
+
+-- whether a record of m feedback taps with n parts of weights, all 0.5 but v at one place, is accepted
+unfoldable accepts : ℕ → ℕ → ℕ → ℕ → Bool
+accepts m n at v =
+    accepted_def (around (record_of (settings m 1000) Cma 5 0x3c07_6966 0x3967_1b0a 0) (set (replicate n (f32 0x3f00_0000)) at (f32 v)) (replicate n zero32))
+
+unfoldable fits_everywhere : ℕ → Bool
+fits_everywhere v = accepts 1 8 0 v && accepts 1 8 3 v && accepts 1 8 7 v && accepts 63 252 0 v && accepts 63 252 126 v && accepts 63 252 251 v
+
+unfoldable fits_nowhere : ℕ → Bool
+fits_nowhere v = not (accepts 1 8 0 v || accepts 1 8 3 v || accepts 1 8 7 v || accepts 63 252 0 v || accepts 63 252 126 v || accepts 63 252 251 v)
+
+unfoldable weight_rows : List Bool
+weight_rows =
+    -- +0; 1e-30, the f32 above it, -1e-30; 1, -1; the largest of both signs
+    fits_everywhere 0 ∷ fits_everywhere 0x0da2_4260 ∷ fits_everywhere 0x0da2_4261 ∷ fits_everywhere 0x8da2_4260 ∷ fits_everywhere 0x3f80_0000 ∷ fits_everywhere 0xbf80_0000
+    ∷ fits_everywhere 0x7f7f_ffff ∷ fits_everywhere 0xff7f_ffff
+    -- -0; the smallest of both signs, the largest subnormal, the smallest normal; the f32 below 1e-30 of both signs
+    ∷ fits_nowhere 0x8000_0000 ∷ fits_nowhere 1 ∷ fits_nowhere 0x8000_0001 ∷ fits_nowhere 0x007f_ffff ∷ fits_nowhere 0x0080_0000 ∷ fits_nowhere 0x0da2_425f ∷ fits_nowhere 0x8da2_425f
+    -- the infinities; NaNs: the least pattern, the quiet one, the largest
+    ∷ fits_nowhere 0x7f80_0000 ∷ fits_nowhere 0xff80_0000 ∷ fits_nowhere 0x7f80_0001 ∷ fits_nowhere 0x7fc0_0000 ∷ fits_nowhere 0xffff_ffff
+    ∷ []
+
 -- ---- equalizing tests 1, 8, 9, 10
 
 unfoldable call_rows : List Bool
@@ -303,5 +327,5 @@ call_rows =
 
 -- the table, whole
 unfoldable pub refusals_pass : Bool
-unfolding new_refused made_bits new_served reset_is call_refused call_replies setter_is frequency_is record_of good around eight start start_with weights_with window_with longer four six two marks broken wide ruined restarted feeding uneven all new_rows reset_rows setter_rows accepted_rows call_rows
-refusals_pass = all new_rows && all reset_rows && all setter_rows && all accepted_rows && all call_rows
+unfolding new_refused made_bits new_served reset_is call_refused call_replies setter_is frequency_is record_of good around eight start start_with weights_with window_with longer four six two marks broken wide ruined restarted feeding uneven all new_rows reset_rows setter_rows accepted_rows accepts fits_everywhere fits_nowhere weight_rows call_rows
+refusals_pass = all new_rows && all reset_rows && all setter_rows && all accepted_rows && all weight_rows && all call_rows
