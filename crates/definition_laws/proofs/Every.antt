@@ -54,6 +54,11 @@ module _ (p : Float → Bool) where
   every-at (v ∷ x) zero d a h = and_l (p v) (every p x) a
   every-at (v ∷ x) (suc i) d a h = every-at x i d (and_r (p v) (every p x) a) (le_of_suc-le-suc h)
 
+  pub every-of-each : (x : List Float) (d : Float) → ((i : ℕ) → i < length x → T (p (get_or x i d))) → T (every p x)
+  unfolding every
+  every-of-each [] d a = tt
+  every-of-each (v ∷ x) d a = and_i (p v) (every p x) (a 0 (omega arith)) (every-of-each x d (λ i h. a (suc i) (omega arith)))
+
   pub every-shifted : (n : ℕ) (a : C32) (x : List Float) → T (p a.re) → T (p a.im) → T (every p x) → T (every p (shifted n a x))
   unfolding shifted every
   every-shifted n a x r i e =

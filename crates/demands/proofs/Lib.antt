@@ -7,3 +7,4 @@ pub mod Spill
 pub mod Sharp
 pub mod Made
 pub mod Meets
+pub mod Weights

@@ -5,3 +5,4 @@ pub mod Cut
 pub mod Blanks
 pub mod Demand3
 pub mod NoSpill
+pub mod Weights
