@@ -1,5 +1,5 @@
 -- `record_rules::all_finite` says whether every part is finite: `all` asks it of each. Assumes nothing.
--- By an answer: no search gives the library's law of `all` its test and what the iterator yields. One law for this and `all_fit` would write out what `all` says of a closure, and be longer than both.
+-- By an answer: no search gives the library's law of `all` its test and what the iterator yields. One law for this and `weights_fit` would write out what `all` says of a closure, and be longer than both.
 use mathlib.Core.Path.{◌∙◌}
 use Rattle.std.proofs.Common.{rules}
 use Rattle.std.proofs.lemmas.Iterator.{YieldsList-from_slice}
