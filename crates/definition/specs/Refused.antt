@@ -9,7 +9,7 @@ use Rattle.types.specs.declared.EqualizeState.{EqualizeState}
 use Rattle.definition.specs.Refusals.{Fresh}
 use Rattle.types.specs.Bits.{f32, zero32, one32}
 use Rattle.definition.specs.Sample.{Equalizer, all_taps, forward, with_running}
-use Rattle.definition.specs.Rules.{rule_r1, accepted_def}
+use Rattle.definition.specs.Rules.{rule_r1, rule_r3, accepted_def}
 use Rattle.definition.specs.Calls.{new_def, reset_def, SetAnswer, set_mu_cma_def, set_mu_dd_def, set_frequency_def, equalize_def}
 use Rattle.definition.specs.Rows.{same, bits_of, state_bits, same_equalizer, settings, settings_with, state_of}
 
@@ -226,6 +226,8 @@ accepted_rows =
     ∷ not (accepted_def (around good (eight 0x3f00_0000) (longer (eight 0x3e80_0000))))
     -- R1: 63 and 64 feedback taps
     ∷ rule_r1 (feeding 63) ∷ not (rule_r1 (feeding 64))
+    -- no weights: R3 holds of them, R1 does not
+    ∷ rule_r3 (around good [] []) ∷ not (rule_r1 (around good [] []))
     -- taps are those of the weights
     ∷ eqb (all_taps uneven) 4 ∷ eqb (forward uneven) 3
     ∷ []
@@ -265,10 +267,11 @@ call_rows =
     ∷ call_refused (around good (eight 0) (longer (eight 0))) four four (marks 2) (1 ∷ [])
     ∷ call_refused start (longer four) four (marks 2) (1 ∷ [])
     ∷ call_refused start four (longer four) (marks 2) (1 ∷ [])
-    -- 8, R1: feedback taps, forward taps, lengths
+    -- 8, R1: feedback taps, forward taps, lengths, no weights
     ∷ call_refused (start_with (record_of (settings 64 1000) Cma 5 0x3c07_6966 0x3967_1b0a 0)) four four (marks 2) (8 ∷ [])
     ∷ call_refused (start_with (record_of (settings 0 1000) Cma 5 0x3c07_6966 0x3967_1b0a 0)) four four (marks 2) (8 ∷ [])
     ∷ call_refused uneven four four (marks 2) (8 ∷ [])
+    ∷ call_refused (around good [] []) four four (marks 2) (8 ∷ [])
     -- R2: step sizes, bandwidth 0.25, gains by bits
     ∷ call_refused (start_with (record_of (settings_with 1 0 0x3ca3_d70a 0x3f94_7ae1_47ae_147b) Cma 5 0x3c07_6966 0x3967_1b0a 0)) four four (marks 2) (8 ∷ [])
     ∷ call_refused (start_with (record_of (settings_with 1 0x3d4c_cccd 0x3f80_0001 0x3f94_7ae1_47ae_147b) Cma 5 0x3c07_6966 0x3967_1b0a 0)) four four (marks 2) (8 ∷ [])
