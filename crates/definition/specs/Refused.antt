@@ -1,6 +1,6 @@
 -- The refusals, as one table: every number from every operation that tests it, what it returns, and that all slices and the record are as they
 -- came; two causes at once for each order; and what the operations leave where they serve.
-use Rattle.std.specs.Prelude.{ℕ, ◌+◌, ◌*◌, Bool, true, false, not, ◌&&◌, ◌||◌, List, [], ◌∷◌, replicate, set, eqb, Float, Ok, Err}
+use Rattle.std.specs.Prelude.{ℕ, ◌+◌, ◌*◌, Bool, true, false, not, ◌&&◌, List, [], ◌∷◌, map, replicate, set, eqb, Float, Ok, Err}
 use Rattle.std.specs.Float.{nan, inf}
 use Rattle.types.specs.declared.EqMode.{EqMode}
 use Rattle.types.specs.declared.EqMode.TheVariants.{Cma, Decision}
@@ -239,11 +239,14 @@ unfoldable accepts : ℕ → ℕ → ℕ → ℕ → Bool
 accepts m n at v =
     accepted_def (around (record_of (settings m 1000) Cma 5 0x3c07_6966 0x3967_1b0a 0) (set (replicate n (f32 0x3f00_0000)) at (f32 v)) (replicate n zero32))
 
+unfoldable at_places : ℕ → List Bool
+at_places v = accepts 1 8 0 v ∷ accepts 1 8 3 v ∷ accepts 1 8 7 v ∷ accepts 63 252 0 v ∷ accepts 63 252 126 v ∷ accepts 63 252 251 v ∷ []
+
 unfoldable fits_everywhere : ℕ → Bool
-fits_everywhere v = accepts 1 8 0 v && accepts 1 8 3 v && accepts 1 8 7 v && accepts 63 252 0 v && accepts 63 252 126 v && accepts 63 252 251 v
+fits_everywhere v = all (at_places v)
 
 unfoldable fits_nowhere : ℕ → Bool
-fits_nowhere v = not (accepts 1 8 0 v || accepts 1 8 3 v || accepts 1 8 7 v || accepts 63 252 0 v || accepts 63 252 126 v || accepts 63 252 251 v)
+fits_nowhere v = all (map not (at_places v))
 
 unfoldable weight_rows : List Bool
 weight_rows =
@@ -330,5 +333,5 @@ call_rows =
 
 -- the table, whole
 unfoldable pub refusals_pass : Bool
-unfolding new_refused made_bits new_served reset_is call_refused call_replies setter_is frequency_is record_of good around eight start start_with weights_with window_with longer four six two marks broken wide ruined restarted feeding uneven all new_rows reset_rows setter_rows accepted_rows accepts fits_everywhere fits_nowhere weight_rows call_rows
+unfolding new_refused made_bits new_served reset_is call_refused call_replies setter_is frequency_is record_of good around eight start start_with weights_with window_with longer four six two marks broken wide ruined restarted feeding uneven all new_rows reset_rows setter_rows accepted_rows accepts at_places fits_everywhere fits_nowhere weight_rows call_rows
 refusals_pass = all new_rows && all reset_rows && all setter_rows && all accepted_rows && all weight_rows && all call_rows
