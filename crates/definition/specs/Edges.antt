@@ -20,7 +20,7 @@ use Rattle.definition.specs.Points.{octant, level_of, decide}
 use Rattle.definition.specs.Turns.{derotated, rotated}
 use Rattle.definition.specs.Sample.{sanitized, mse_after, error_of, fed_of, step_size, live, update_of, adapted, phase_error, freq_after}
 use Rattle.definition.specs.Rules.{taps_fit, feedback_fits, mu_fits, bw_fits, weight_fits, freq_fits, count_fits}
-use Rattle.definition.specs.Rows.{same, bits_of, settings, state_of}
+use Rattle.definition.specs.Rows.{same, all, bits_of, settings, state_of}
 
 abbrev yes : Bool → Bool → Bool
 yes true b = b
@@ -36,10 +36,6 @@ bits_c v re im = bits v.re re && bits v.im im
 
 unfoldable c : ℕ → ℕ → C32
 c re im = complex (f32 re) (f32 im)
-
-unfoldable all : List Bool → Bool
-all [] = true
-all (b ∷ l) = b && all l
 
 -- ---- finite, flush, clip, narrow
 
@@ -251,5 +247,5 @@ step_rows =
 
 -- the table, whole
 unfoldable pub edges_pass : Bool
-unfolding bits bits_c c all float_rows range_rows is_int phase_rows decide_rows step_or held tracker window18 weights18 step_rows
+unfolding bits bits_c c float_rows range_rows is_int phase_rows decide_rows step_or held tracker window18 weights18 step_rows
 edges_pass = all float_rows && all range_rows && all phase_rows && all decide_rows && all step_rows

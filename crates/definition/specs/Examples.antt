@@ -30,8 +30,8 @@ pub data Row : Type 0 where
   nearest : Float → ℕ → ℕ → Row
   -- what `new` replies with so many feedback and forward taps: [] is taken
   taps_reply : ℕ → ℕ → List ℕ → Row
-  -- `new`, 3 taps, 1000 Cma symbols, one sample: one symbol (0, 0), mark 0
-  one_sample : C32 → Row
+  -- `new`, 3 taps, 1000 Cma symbols, one sample: one symbol (0, 0), this mark
+  one_sample : C32 → ℕ → Row
   -- `new`, 3 taps, `cma_symbols` 2, two blanks: (0, 0) and mark 1 each; Decision, count 2, `mse` 1, phase 0
   two_blanks : C32 → C32 → Row
 
@@ -40,12 +40,14 @@ unfoldable on_made : Fresh → NewAnswer → List Float → List ℕ → List An
 on_made (Ok s) a xs ms = equalize_def (record { state = s; weights = a.weights; window = a.window }) xs xs ms ∷ []
 on_made (Err e) a xs ms = []
 
-unfoldable after_new : ℕ → List Float → List ℕ → List Answer
+unfoldable pub after_new : ℕ → List Float → List ℕ → List Answer
+unfolding on_made
 after_new cma xs ms = let a = new_def (settings 0 cma) (zeros 6) (zeros 6) in on_made a.answer a xs ms
 
-unfoldable heard_zero : List Answer → Bool
-heard_zero [] = false
-heard_zero (a ∷ l) = same a.reply [] && same (bits_of a.out) (0 ∷ 0 ∷ []) && same a.marks (0 ∷ [])
+-- the call is served, with these symbols and marks
+unfoldable pub answers : List ℕ → List ℕ → List Answer → Bool
+answers symbols marks [] = false
+answers symbols marks (a ∷ l) = same a.reply [] && same (bits_of a.out) symbols && same a.marks marks
 
 unfoldable blank_twice : List Answer → Bool
 blank_twice [] = false
@@ -60,7 +62,7 @@ passes (decides k z d) = same_bits (decide k z).re d.re && same_bits (decide k z
 passes (level_is v n bits) = eqb (level_of qam.Qam16 (f32 v)) n && same_bits (decide Qam16 (complex (f32 v) zero32)).re (f32 bits)
 passes (nearest x a b) = same_bits x (round binary32 false a b)
 passes (taps_reply fb n reply) = same (new_def (settings fb 1000) (zeros (2 * (n + fb))) (zeros (2 * (n + fb)))).reply reply
-passes (one_sample x) = heard_zero (after_new 1000 (x.re ∷ x.im ∷ []) (7 ∷ []))
+passes (one_sample x mark) = answers (0 ∷ 0 ∷ []) (mark ∷ []) (after_new 1000 (x.re ∷ x.im ∷ []) (7 ∷ []))
 passes (two_blanks x y) = blank_twice (after_new 2 (x.re ∷ x.im ∷ y.re ∷ y.im ∷ []) (7 ∷ 7 ∷ []))
 
 unfoldable all_pass : List Row → Bool
@@ -101,8 +103,9 @@ examples =
     -- feedback 63; 64
     ∷ taps_reply 63 3 []
     ∷ taps_reply 64 3 (2 ∷ [])
-    -- `new`, 3 taps, sample (1, 0)
-    ∷ one_sample (complex one32 zero32)
+    -- `new`, 3 taps, sample (1, 0): heard; sample (0, 0), whose forward power is 0: silent
+    ∷ one_sample (complex one32 zero32) 0
+    ∷ one_sample (complex zero32 zero32) 3
     -- `new`, `cma_symbols` 2, two NaN samples
     ∷ two_blanks (complex nan nan) (complex nan nan)
     ∷ two_blanks (complex nan zero32) (complex one32 nan)
@@ -110,5 +113,5 @@ examples =
 
 -- the table, whole
 unfoldable pub examples_pass : Bool
-unfolding on_made after_new heard_zero blank_twice passes all_pass minus examples
+unfolding after_new answers blank_twice passes all_pass minus examples
 examples_pass = all_pass examples

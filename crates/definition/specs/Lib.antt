@@ -23,6 +23,7 @@ pub mod Packed
 pub mod Rows
 pub mod Examples
 pub mod Samples
+pub mod Marks
 pub mod Refused
 pub mod Constants
 pub mod Edges

@@ -11,7 +11,7 @@ use Rattle.types.specs.Bits.{f32, zero32, one32}
 use Rattle.definition.specs.Sample.{Equalizer, all_taps, forward, with_running}
 use Rattle.definition.specs.Rules.{rule_r1, rule_r3, accepted_def}
 use Rattle.definition.specs.Calls.{new_def, reset_def, SetAnswer, set_mu_cma_def, set_mu_dd_def, set_frequency_def, equalize_def}
-use Rattle.definition.specs.Rows.{same, bits_of, state_bits, same_equalizer, settings, settings_with, state_of}
+use Rattle.definition.specs.Rows.{same, all, bits_of, state_bits, same_equalizer, settings, settings_with, state_of}
 
 -- ---- the operations, compared whole
 
@@ -118,10 +118,6 @@ ruined cmaBits ddBits = record_of (settings_with 64 cmaBits ddBits 0x3fd0_0000_0
 -- what reset leaves of `start`: count 0, mse 1, phase 0, freq 0, weight 1 in the middle of the forward taps
 unfoldable restarted : EqualizeState → EqMode → Equalizer
 restarted s md = around (with_running s md 0 one32 0 zero32) (set (replicate 8 zero32) 2 one32) (replicate 8 zero32)
-
-unfoldable all : List Bool → Bool
-all [] = true
-all (b ∷ l) = b && all l
 
 -- ---- new: tests 1 to 7 in that order
 
@@ -333,5 +329,5 @@ call_rows =
 
 -- the table, whole
 unfoldable pub refusals_pass : Bool
-unfolding new_refused made_bits new_served reset_is call_refused call_replies setter_is frequency_is record_of good around eight start start_with weights_with window_with longer four six two marks broken wide ruined restarted feeding uneven all new_rows reset_rows setter_rows accepted_rows accepts at_places fits_everywhere fits_nowhere weight_rows call_rows
+unfolding new_refused made_bits new_served reset_is call_refused call_replies setter_is frequency_is record_of good around eight start start_with weights_with window_with longer four six two marks broken wide ruined restarted feeding uneven new_rows reset_rows setter_rows accepted_rows accepts at_places fits_everywhere fits_nowhere weight_rows call_rows
 refusals_pass = all new_rows && all reset_rows && all setter_rows && all accepted_rows && all weight_rows && all call_rows

@@ -17,6 +17,10 @@ same [] (b ∷ l) = false
 same (a ∷ k) [] = false
 same (a ∷ k) (b ∷ l) = eqb a b && same k l
 
+unfoldable pub all : List Bool → Bool
+all [] = true
+all (b ∷ l) = b && all l
+
 unfoldable pub bits_of : List Float → List ℕ
 bits_of l = map (to_bits binary32) l
 
@@ -32,7 +36,7 @@ unfoldable pub same_equalizer : Equalizer → Equalizer → Bool
 same_equalizer p q =
     same (state_bits p.state) (state_bits q.state) && same (bits_of p.weights) (bits_of q.weights) && same (bits_of p.window) (bits_of q.window)
 
--- settings, and a record, by their numbers, floats by their bits
+-- settings, a record, and an equalizer by their numbers, floats by their bits
 unfoldable pub settings_of : EqConstellation → ℕ → ℕ → ℕ → ℕ → ℕ → EqParams
 settings_of k taps cmaBits ddBits symbols bwBits = record {
   constellation = k;
@@ -46,6 +50,9 @@ settings_of k taps cmaBits ddBits symbols bwBits = record {
 unfoldable pub state_of : EqParams → ℕ → ℕ → EqMode → ℕ → ℕ → ℕ → ℕ → EqualizeState
 state_of p kpBits kiBits md n mseBits phase freqBits =
     record { params = p; kp = f32 kpBits; ki = f32 kiBits; mode = md; count = n; mse = f32 mseBits; phase = phase; freq = f32 freqBits }
+
+unfoldable pub holds : EqualizeState → List ℕ → List ℕ → Equalizer
+holds s w h = record { state = s; weights = map f32 w; window = map f32 h }
 
 -- QPSK, mu 0.05 and 0.02, bandwidth 0.02
 unfoldable pub settings : ℕ → ℕ → EqParams

@@ -11,7 +11,7 @@ use Rattle.types.specs.declared.EqConstellation.{EqConstellation}
 use Rattle.types.specs.declared.EqParams.{EqParams}
 use Rattle.types.specs.declared.EqualizeState.{EqualizeState}
 use Rattle.types.specs.declared.Mark.{Mark}
-use Rattle.types.specs.declared.Mark.TheVariants.{Heard, Blank, Spilled}
+use Rattle.types.specs.declared.Mark.TheVariants.{Heard, Blank, Spilled, Silent, OffScale}
 use Rattle.types.specs.declared.Update.{Update}
 use Rattle.types.specs.declared.Update.TheVariants.{Step, Hold}
 use Rattle.types.specs.Bits.{zero32, one32}
@@ -116,6 +116,17 @@ freq_after s pd = clip (flush (s.freq +f s.ki *f pd)) max_freq
 unfoldable pub phase_after : EqualizeState → Float → Float → ℕ
 phase_after s freq pd = (s.phase + phase_step (freq +f s.kp *f pd)) % 2 ^ 32
 
+-- ---- The mark. "Marks are tried in the order 1, 2, 3, 4. Mark 0 means none of these."
+
+-- "Mark 3, silent, is given where sample and y are finite and the forward power F is 0. Mark 4, off scale, is given where z has a part that is not
+-- finite." F is 0 where step 6 has no update: by the float, and not by the samples, whose squares may be too small for one.
+unfoldable pub heard_mark : Float → C32 → Mark
+heard_mark F z = cond (not (live F)) Silent (cond (not (finite_c z)) OffScale Heard)
+
+-- of any sample x: before these 1, blank, where x is not finite, and 2, spilled, where y is not
+unfoldable pub mark_by : C32 → C32 → Float → C32 → Mark
+mark_by x y F z = cond (not (finite_c x)) Blank (cond (not (finite_c y)) Spilled (heard_mark F z))
+
 -- ---- Steps 4 to 7 put together, for a finite sample and a finite y, by document 01's letters
 
 pub record Letters : Type 0 where
@@ -167,14 +178,14 @@ pub record Stage : Type 0 where
 unfoldable pub tracked : EqualizeState → Float → Float → EqualizeState
 tracked s pe pd = with_running s s.mode s.count (mse_after s.mse pe) (phase_after s (freq_after s pd) pd) (freq_after s pd)
 
--- If F is 0, nothing adapts and (0, 0) is fed back.
+-- If F is 0, nothing adapts and (0, 0) is fed back. Marks 3 and 4 skip nothing.
 unfoldable pub heard_as : EqualizeState → List Float → ℕ → ℕ → List Float → Letters → Stage
 heard_as s w n f h v = record {
   state = tracked s v.pe v.pd;
   weights = adapted (update_of v.F v.g) n f w h;
   out = v.z;
   fed = cond (live v.F) (fed_of s.mode v.d v.turn) zero_c;
-  mark = Heard;
+  mark = heard_mark v.F v.z;
 }
 
 -- ---- Step 3. If x or y is not finite: output (0, 0), fed-back sample (0, 0), go to 8.

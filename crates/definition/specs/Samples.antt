@@ -1,6 +1,6 @@
 -- One sample whole, as one table: a call of one sample, what it puts out and marks, and the record, weights and window that it leaves.
 -- Floats go by their bits. The values are the Rust's (oracle/README.md), the marks document 01's.
-use Rattle.std.specs.Prelude.{ℕ, Bool, true, ◌&&◌, List, [], ◌∷◌, ◌++◌, map, replicate}
+use Rattle.std.specs.Prelude.{ℕ, Bool, ◌&&◌, List, [], ◌∷◌, ◌++◌, replicate}
 use Rattle.types.specs.declared.EqMode.{EqMode}
 use Rattle.types.specs.declared.EqMode.TheVariants.{Cma, Decision}
 use Rattle.types.specs.declared.EqConstellation.TheVariants.{Bpsk, Qam16, Qam64}
@@ -10,10 +10,7 @@ use Rattle.types.specs.Bits.{f32}
 use Rattle.definition.specs.Slices.{zeros}
 use Rattle.definition.specs.Sample.{Equalizer}
 use Rattle.definition.specs.Calls.{equalize_def}
-use Rattle.definition.specs.Rows.{same, bits_of, same_equalizer, settings_of, settings, state_of}
-
-unfoldable holds : EqualizeState → List ℕ → List ℕ → Equalizer
-holds s w h = record { state = s; weights = map f32 w; window = map f32 h }
+use Rattle.definition.specs.Rows.{same, all, bits_of, same_equalizer, settings_of, settings, state_of, holds}
 
 -- bandwidth 0.02 and its gains: mode, count, mse, phase, freq
 unfoldable runs : EqParams → EqMode → ℕ → ℕ → ℕ → ℕ → EqualizeState
@@ -24,10 +21,6 @@ unfoldable sample_is : Equalizer → ℕ → ℕ → List ℕ → ℕ → Equali
 sample_is q re im symbol mark left =
     let a = equalize_def q (f32 re ∷ f32 im ∷ []) (zeros 2) (7 ∷ []) in
     same a.reply [] && same (bits_of a.out) symbol && same a.marks (mark ∷ []) && same_equalizer a.equalizer left
-
-unfoldable all : List Bool → Bool
-all [] = true
-all (b ∷ l) = b && all l
 
 -- ---- step 3: blanks and spilled samples; QPSK, 3 + 2 taps, and weights for which the imaginary part of y is infinite
 
@@ -61,12 +54,12 @@ passed_rows =
 unfoldable deciding : ℕ → ℕ → ℕ → EqualizeState
 deciding mse phase freq = runs (settings 1 5) Decision 5 mse phase freq
 
--- a silent forward window: nothing adapts, and (0, 0) is fed back; all else moves
+-- a silent forward window: mark 3, nothing adapts, and (0, 0) is fed back; all else moves
 unfoldable silent : Bool
 silent =
     sample_is
     (holds (deciding 0x3f00_0000 77 0) (replicate 8 0x3f00_0000) (replicate 6 0 ++ replicate 2 0x3e80_0000))
-    0 0 (0x32f1_e70c ∷ 0x3e80_0000 ∷ []) 0
+    0 0 (0x32f1_e70c ∷ 0x3e80_0000 ∷ []) 3
     (holds (deciding 0x3f00_88ef 0x0062_4e1b 0x3823_6a95) (replicate 8 0x3f00_0000) (replicate 8 0))
 
 -- an infinite forward power is no silence: g is 0, and the decision is fed back
@@ -77,12 +70,12 @@ loud =
     0x5f80_0000 0 (0x3f80_0000 ∷ 0 ∷ []) 0
     (holds (deciding 0x3f00_3839 0xfe76_c8c8 0xb923_6a96) (0x1f80_0000 ∷ replicate 7 0) (0x5f80_0000 ∷ replicate 5 0 ++ replicate 2 0x3f35_04f3))
 
--- y is finite and z is not: z is put out, with mark 0; g is not finite, and the decision is fed back all the same
+-- y is finite and z is not: z is put out, with mark 4; g is not finite, and the decision is fed back all the same
 unfoldable infinite : Bool
 infinite =
     sample_is
     (holds (deciding 0x3f00_0000 0x2000_0000 0x3c23_d70a) (0x7f7f_ffff ∷ 0x7f7f_ffff ∷ replicate 6 0) (replicate 8 0))
-    0x3f80_0000 0 (0x7f80_0000 ∷ 0 ∷ []) 0
+    0x3f80_0000 0 (0x7f80_0000 ∷ 0 ∷ []) 4
     (holds (deciding 0x3f00_0000 0x228f_5c28 0x3c23_d70a) (0x7f7f_ffff ∷ 0x7f7f_ffff ∷ replicate 6 0) (0x3f80_0000 ∷ replicate 6 0 ++ 0x3f7f_ffff ∷ []))
 
 -- the feedback weight alone overflows: all weights are reset, with 1 in the middle of the forward taps; BPSK, step sizes 1, bandwidth 0
@@ -140,5 +133,5 @@ decided =
 
 -- the table, whole
 unfoldable pub samples_pass : Bool
-unfolding holds runs sample_is all huge huge_start huge_after passed_rows deciding silent loud infinite still brink blind qam64 last_blind qam16 decided
+unfolding runs sample_is huge huge_start huge_after passed_rows deciding silent loud infinite still brink blind qam64 last_blind qam16 decided
 samples_pass = all passed_rows && all (silent ∷ loud ∷ infinite ∷ brink ∷ blind ∷ last_blind ∷ decided ∷ [])

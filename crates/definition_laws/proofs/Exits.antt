@@ -1,14 +1,17 @@
 -- The three ways of a sample. Assumes nothing.
 use Prim.Native.Nat.{ℕ}
 use mathlib.Core.Path.{◌≡◌, refl}
-use mathlib.Core.Bool.{Bool, true, false, cond}
+use mathlib.Core.Bool.{Bool, true, false, cond, not}
 use mathlib.Core.List.{List}
 use lib.Ieee.{Float}
 use Rattle.types.specs.declared.C32.{C32}
 use Rattle.types.specs.declared.EqualizeState.{EqualizeState}
-use Rattle.types.specs.declared.Mark.TheVariants.{Heard, Blank, Spilled}
+use Rattle.types.specs.declared.Mark.TheVariants.{Blank, Spilled}
 use Rattle.definition.specs.Floats.{finite_c}
-use Rattle.definition.specs.Sample.{step3, hear, heard_as, passed_by}
+use Rattle.definition.specs.Slices.{power}
+use Rattle.definition.specs.Phase.{cos_sin}
+use Rattle.definition.specs.Turns.{derotated}
+use Rattle.definition.specs.Sample.{heard_mark, mark_by, step3, hear, heard_as, passed_by}
 
 module _ (s : EqualizeState) (w : List Float) (n f : ℕ) (x : C32) (h : List Float) (y : C32) where
   pub stage-blank : finite_c x ≡ false → step3 s w n f x h y ≡ passed_by s w Blank
@@ -23,12 +26,13 @@ module _ (s : EqualizeState) (w : List Float) (n f : ℕ) (x : C32) (h : List Fl
   unfolding step3
   stage-heard a b = rw (a, b)
 
-  -- the mark goes by the two tests alone
-  pub stage-mark : (step3 s w n f x h y).mark ≡ cond (finite_c x) (cond (finite_c y) Heard Spilled) Blank
-  unfolding step3 heard_as
+  -- the mark, whichever way it goes
+  pub stage-mark : (step3 s w n f x h y).mark ≡ mark_by x y (power h f) (derotated y (cos_sin s.phase))
+  unfolding step3 heard_as hear mark_by
   stage-mark = go (finite_c x) (finite_c y)
     where
-      go : (a b : Bool) → (cond a (cond b (heard_as s w n f h (hear s n f h y)) (passed_by s w Spilled)) (passed_by s w Blank)).mark ≡ cond a (cond b Heard Spilled) Blank
+      go : (a b : Bool) → (cond a (cond b (heard_as s w n f h (hear s n f h y)) (passed_by s w Spilled)) (passed_by s w Blank)).mark
+          ≡ cond (not a) Blank (cond (not b) Spilled (heard_mark (power h f) (derotated y (cos_sin s.phase))))
       go true true = refl
       go true false = refl
       go false b = refl

@@ -251,7 +251,7 @@ spilled_qam16 = record {
   marks = 2 ∷ 2 ∷ 2 ∷ 2 ∷ 0 ∷ 0 ∷ [];
 }
 
--- a forward window of zeros, and the smallest sample that is heard
+-- a forward window of zeros, a sample whose square is 0, and a sample that is heard
 abbrev silence_decision : Vector
 silence_decision = record {
   settings = settings_of Qpsk 1 0x3d4c_cccd 0x3ca3_d70a 0 0x3f94_7ae1_47ae_147b;
@@ -277,7 +277,7 @@ silence_decision = record {
     window = 0 ∷ 0 ∷ 0x3f33_3333 ∷ 0xbf33_3333 ∷ 0 ∷ 0x0da2_4260 ∷ 0x3f36_03df ∷ 0x3f34_0497 ∷ [];
   };
   out = 0x3e85_0fb6 ∷ 0xbd30_0683 ∷ 0 ∷ 0 ∷ 0x0cea_d5ae ∷ 0x8cb0_2f37 ∷ 0xbee2_f904 ∷ 0xbd81_5abc ∷ 0x3ec7_99f3 ∷ 0x3e9a_cbce ∷ [];
-  marks = 0 ∷ 0 ∷ 0 ∷ 0 ∷ 0 ∷ [];
+  marks = 3 ∷ 3 ∷ 3 ∷ 0 ∷ 0 ∷ [];
 }
 
 -- nine forward taps, two feedback taps, 8-PSK

@@ -1,4 +1,5 @@
 -- The proofs of the statements in specs/, and that they are not empty.
+pub mod Marks
 pub mod Served
 pub mod Cut
 pub mod Blanks

@@ -16,17 +16,17 @@ use Rattle.std.specs.Prelude.{Ok, Err}
 use Rattle.types.specs.Numbers.{mark_number}
 use Rattle.definition.specs.Refusals.{Outcome, test, first_of}
 use Rattle.definition.specs.Slices.{whole, samples_of}
-use Rattle.definition.specs.Sample.{Equalizer, all_taps, forward, step1, step8, sample_def}
+use Rattle.definition.specs.Sample.{Equalizer, sample_def}
 use Rattle.definition.specs.Rules.{rules, accepted_def}
 use Rattle.definition.specs.Run.{run_def, written}
 use Rattle.definition.specs.Calls.{even, lengths_of, equalize_tests, verdict_def, answer_by, equalize_def}
 use Rattle.definition_laws.proofs.Accept.{accepted_is, accepted_whole}
 use Rattle.definition_laws.proofs.Kept.{run_accepted}
-use Rattle.definition_laws.proofs.Exits.{stage-mark}
 use Rattle.definition_laws.proofs.Runs.{run_outs, symbols_length, marks_length, samples_length}
 use Rattle.std.proofs.lemmas.Bool.{and_parts}
 use Rattle.definition_laws.proofs.Verdicts.{outcome_is, served_fits}
-use Rattle.demands.specs.Demand1.{ServedCall, RefusedCall, Demand1, lengths_verdict, ByLengths, mark_given, EveryMark}
+use Rattle.demands.specs.Demand1.{ServedCall, RefusedCall, Demand1, lengths_verdict, ByLengths, EveryMark}
+use Rattle.demands.proofs.Marks.{sample_mark}
 
 -- an accepted equalizer stays accepted over a block
 pub run_fine : (q : Equalizer) (xs : List C32) → accepted_def q ≡ true → accepted_def (run_def q xs).equalizer ≡ true
@@ -68,10 +68,6 @@ by_lengths q xs ys ms a =
     go w x y r p q = unfold first_of in (rw (p, q))
 
 -- ---- the mark of each sample
-
-sample_mark : (q : Equalizer) (x : C32) → (sample_def q x).out.mark ≡ mark_given q x
-unfolding sample_def step8
-sample_mark q x = stage-mark q.state q.weights (all_taps q) (forward q) x (step1 (forward q) x q.window) _
 
 pub every_mark : EveryMark
 unfolding run_def written

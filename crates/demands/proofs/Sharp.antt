@@ -16,7 +16,8 @@ use Rattle.definition.specs.Rules.{accepted_def}
 use Rattle.definition.specs.Rows.{settings_of}
 use Rattle.definition.specs.Calls.{fresh_state}
 use Rattle.definition.proofs.Computed.{computed}
-use Rattle.demands.specs.NoSpill.{up_to, sum_of, SharpAt, Sharp}
+use Rattle.demands.specs.NoSpill.{up_to, SharpAt, Sharp}
+use Rattle.demands.specs.Marks.{sum_of}
 
 unfoldable pairs : ℕ → Float → Float → List Float
 pairs zero a b = []

@@ -1,20 +1,19 @@
 -- DEMAND 1. "A block handed in with its record and buffers, be it long, empty, mismatched, forged or full of infinities, is either served, with
 -- one symbol and one mark per sample, or refused by a listed number with every buffer and the record as they came; a served block's record is
 -- accepted by the next call."
-use Rattle.std.specs.Prelude.{ℕ, ◌/◌, ◌<◌, ◌≡◌, ◌⊎◌, true, cond, ◌&&◌, List, [], ◌∷◌, length, get_or, take, eqb, Float, Ok, Err}
+use Rattle.std.specs.Prelude.{ℕ, ◌/◌, ◌<◌, ◌≡◌, ◌⊎◌, true, ◌&&◌, List, [], ◌∷◌, length, get_or, take, eqb, Float, Ok, Err}
 use Rattle.types.specs.declared.C32.{C32}
 use Rattle.types.specs.declared.EqParams.{EqParams}
 use Rattle.types.specs.declared.EqualizeState.{EqualizeState}
 use Rattle.types.specs.declared.Error.{Error}
 use Rattle.types.specs.declared.Error.TheVariants.{Odd, Output, Marks}
-use Rattle.types.specs.declared.Mark.{Mark}
-use Rattle.types.specs.declared.Mark.TheVariants.{Heard, Blank, Spilled}
 use Rattle.types.specs.Numbers.{error_number, mark_number}
 use Rattle.definition.specs.Refusals.{Outcome, error_values, test, first_of}
-use Rattle.definition.specs.Floats.{zero_c, finite_c}
-use Rattle.definition.specs.Sample.{Equalizer, all_taps, forward, step1, step2, with_running}
+use Rattle.definition.specs.Floats.{zero_c}
+use Rattle.definition.specs.Sample.{Equalizer, with_running}
 use Rattle.definition.specs.Rules.{accepted_def}
 use Rattle.definition.specs.Run.{run_def, written, mark_byte}
+use Rattle.demands.specs.Marks.{mark_given}
 use Rattle.definition.specs.Calls.{even, Answer, equalize_def, new_def, reset_def, with_params, with_mus, set_mu_cma_def, set_mu_dd_def, held_freq, set_frequency_def}
 
 -- served: one symbol and one mark per sample, and what is left is accepted
@@ -48,11 +47,7 @@ lengths_verdict xs ys ms =
 abbrev pub ByLengths : Type 0
 ByLengths = (q : Equalizer) (xs ys : List Float) (ms : List ℕ) → accepted_def q ≡ true → (equalize_def q xs ys ms).outcome ≡ lengths_verdict xs ys ms
 
--- The mark of sample i: blank where the sample is not finite, spilled where it is and the filter sum y is not, else heard; y is formed from what the
--- i samples before have left.
-abbrev pub mark_given : Equalizer → C32 → Mark
-mark_given q x = cond (finite_c x) (cond (finite_c (step2 (all_taps q) q.weights (step1 (forward q) x q.window))) Heard Spilled) Blank
-
+-- The mark of sample i goes by that sample and by y, F and z, which are formed from what the i samples before have left. For every q, accepted or not.
 abbrev pub EveryMark : Type 0
 EveryMark =
     (q : Equalizer) (xs : List C32) (i : ℕ) → i < length xs → get_or (written mark_byte (run_def q xs).outs) i 0 ≡ mark_number (mark_given (run_def q (take i xs)).equalizer (get_or xs i zero_c))

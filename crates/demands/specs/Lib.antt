@@ -1,5 +1,6 @@
 -- What is proved of the definition, as statements to be read on their own. The proofs are in proofs/.
 pub mod Traces
+pub mod Marks
 pub mod Demand1
 pub mod Cut
 pub mod Blanks

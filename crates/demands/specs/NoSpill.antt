@@ -5,18 +5,15 @@ use Rattle.std.specs.Float.Ieee.{up, down}
 use Rattle.types.specs.declared.C32.{C32}
 use Rattle.definition.specs.Floats.{finite_c}
 use Rattle.definition.specs.Slices.{every}
-use Rattle.definition.specs.Sample.{Equalizer, all_taps, forward, step1, step2}
+use Rattle.definition.specs.Sample.{Equalizer, all_taps}
 use Rattle.definition.specs.Rules.{accepted_def}
+use Rattle.demands.specs.Marks.{sum_of}
 
 -- the magnitude is at most 2^a: fin s m e has the size m · up e / down e
 unfoldable pub up_to : ℕ → Float → Bool
 up_to a nan = false
 up_to a (inf s) = false
 up_to a (fin s m e) = leb (m * up e) (2 ^ a * down e)
-
--- y of the sample x: steps 1 and 2
-abbrev pub sum_of : Equalizer → C32 → C32
-sum_of q x = step2 (all_taps q) q.weights (step1 (forward q) x q.window)
 
 -- Where every weight part is at most 2^a, and every part of the window and of the sample at most 2^b, y is finite, so the sample is not marked
 -- spilled, if a + b + k is at most 128 for a k with twice the taps below 2^k. So a + b may be 125 at 3 taps, 124 at 4 to 7, 123 at 8 to 15, 122 at

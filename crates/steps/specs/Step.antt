@@ -1,12 +1,12 @@
 -- Steps 4 to 7 as the changed numbers, in the definition's words.
-use Rattle.std.specs.Prelude.{Bool, cond, ◌&&◌, List, Float}
+use Rattle.std.specs.Prelude.{Bool, cond, not, ◌&&◌, List, Float}
 use Rattle.types.specs.declared.C32.{C32}
 use Rattle.types.specs.declared.CosSin.{CosSin}
 use Rattle.types.specs.declared.EqMode.{EqMode}
 use Rattle.types.specs.declared.EqConstellation.{EqConstellation}
 use Rattle.types.specs.declared.EqualizeState.{EqualizeState}
 use Rattle.types.specs.declared.Mark.{Mark}
-use Rattle.types.specs.declared.Mark.TheVariants.{Heard}
+use Rattle.types.specs.declared.Mark.TheVariants.{Heard, OffScale}
 use Rattle.types.specs.declared.Update.{Update}
 use Rattle.types.specs.declared.Update.TheVariants.{Step, Hold}
 use Rattle.definition.specs.Floats.{zero_c, finite_c, norm, minus_c, scaled_c}
@@ -14,7 +14,7 @@ use Rattle.definition.specs.Phase.{cos_sin}
 use Rattle.definition.specs.Points.{decide}
 use Rattle.definition.specs.Turns.{derotated}
 use Rattle.definition.specs.Packed.{equalizer}
-use Rattle.definition.specs.Sample.{Did, with_running, mse_after, error_of, fed_of, live, phase_error, freq_after, phase_after, advance}
+use Rattle.definition.specs.Sample.{Did, with_running, mse_after, error_of, fed_of, live, heard_mark, phase_error, freq_after, phase_after, advance}
 use Rattle.definition.specs.Sample as sample
 use Rattle.steps.specs.declared.Track.{Track}
 use Rattle.steps.specs.declared.Aim.{Aim}
@@ -32,6 +32,10 @@ aimed mode k t y d e = record { e = error_of mode k y e t; fed = fed_of mode d t
 unfoldable pub update_if : Bool → C32 → Update
 update_if b g = cond (b && finite_c g) (Step g.re g.im) Hold
 
+-- the mark of the symbol z, where the forward window is live
+unfoldable pub live_mark : C32 → Mark
+live_mark z = cond (not (finite_c z)) OffScale Heard
+
 -- steps 4 to 7 with c and s, z and d settled
 unfoldable pub step_at : EqualizeState → CosSin → C32 → Float → Float → C32 → C32 → Stepped
 step_at s t y F size z d = record {
@@ -39,6 +43,7 @@ step_at s t y F size z d = record {
   z = z;
   fed = cond (live F) (fed_of s.mode d t) zero_c;
   update = update_if (live F) (scaled_c size (error_of s.mode s.params.constellation y (minus_c z d) t));
+  mark = heard_mark F z;
 }
 
 -- .. with c and s settled
@@ -59,9 +64,9 @@ running_of s = record { mse = s.mse; freq = s.freq; phase = s.phase }
 abbrev pub with_track : EqualizeState → Track → EqualizeState
 with_track s t = with_running s s.mode s.count t.mse t.phase t.freq
 
--- a heard sample, and one that is not
+-- a sample that went through steps 4 to 7, and one that did not
 abbrev pub heard_of : Stepped → Stage
-heard_of r = record { track = r.track; out = r.z; fed = r.fed; mark = Heard }
+heard_of r = record { track = r.track; out = r.z; fed = r.fed; mark = r.mark }
 
 abbrev pub unheard_of : EqualizeState → Mark → Stage
 unheard_of s mark = record { track = record { mse = s.mse; freq = s.freq; phase = s.phase }; out = zero_c; fed = zero_c; mark = mark }

@@ -1,13 +1,13 @@
 // One sample after its filter sum: tracker, decision, error, update, what the sample gives, and a weight after the update.
 #![tactic(auto)]
 
-ghost use Rattle.std.specs.Prelude.{◌≡◌, true, ◌+◌, ◌%◌, ◌^◌, if◌then◌else◌};
+ghost use Rattle.std.specs.Prelude.{◌≡◌, true, ◌+◌, ◌%◌, ◌^◌};
 ghost use Rattle.types.specs.Bits.{one32};
-ghost use Rattle.definition.specs.Floats.{norm, zero_c, scaled_c, clip_c};
+ghost use Rattle.definition.specs.Floats.{norm, scaled_c, clip_c};
 ghost use Rattle.definition.specs.Phase.{phase_step};
 ghost use Rattle.definition.specs.Sample.{mse_after, godard_error, phase_error, mu_of, step_size};
 ghost use Rattle.definition.specs.Rules.{rule_r4};
-ghost use Rattle.steps.specs.Step.{track_of, aimed, update_if, step_with, step_of, running_of, with_track, heard_of, unheard_of, sampled_of};
+ghost use Rattle.steps.specs.Step.{track_of, aimed, update_if, live_mark, step_with, step_of, running_of, with_track, heard_of, unheard_of, sampled_of};
 ghost use Rattle.steps.specs.Weight.{lane_re, lane_im};
 
 use types::{C32, CosSin, EqMode, EqualizeState, Mark, Update};
@@ -34,6 +34,7 @@ pub struct Stepped {
     pub z: C32,
     pub fed: C32,
     pub update: Update,
+    pub mark: Mark,
 }
 
 // What step 8 starts from, beside the weights.
@@ -51,6 +52,13 @@ pub struct Sampled {
     pub state: EqualizeState,
     pub out: C32,
     pub mark: Mark,
+}
+
+// The running numbers after a sample, and the mark of its symbol.
+#[derive(Clone, Copy)]
+struct Marked {
+    track: Track,
+    mark: Mark,
 }
 
 // The error of the mode, and the sample to feed back.
@@ -87,7 +95,7 @@ impl Track {
     }
 }
 
-// A sample whose steps 4 to 7 gave r is heard.
+// What steps 4 to 7 gave, but for the update.
 impl From<Stepped> for Stage {
     ghost from_gives = { λ r k. k ≡ heard_of r };
 
@@ -96,13 +104,13 @@ impl From<Stepped> for Stage {
             track: r.track,
             out: r.z,
             fed: r.fed,
-            mark: Mark::Heard,
+            mark: r.mark,
         }
     }
 }
 
 impl Stage {
-    // A sample that is not heard: zero is given and fed back, and no number moves.
+    // A sample without steps 4 to 7: zero is given and fed back, and no number moves.
     pub fn unheard(s: EqualizeState, mark: Mark) -> Stage
         ensures { result ≡ unheard_of s mark }
     {
@@ -157,18 +165,38 @@ fn turned(s: EqualizeState, mse: f32, p: f32) -> Track
     }
 }
 
-// The running numbers after the symbol z with the decision d, e apart. A detector value that is not finite counts as 0. Two calls: where p is chosen before one
-// call, the next sample waits for the choice, 3 ns.
-#[tactic(auto, unfolding(definition::specs::Sample::phase_error))]
-fn tracked(s: EqualizeState, z: C32, d: C32, e: C32) -> Track
-    ensures { result ≡ track_of s (mse_after s.mse (norm e)) (phase_error z d) }
+// The mark of a symbol, where the forward window is not silent.
+#[tactic(auto, unfolding(crate::specs::Step::live_mark))]
+fn mark_of(z: C32) -> Mark
+    ensures { result ≡ live_mark z }
+{
+    if numeric::finite_c(z) {
+        Mark::Heard
+    } else {
+        Mark::OffScale
+    }
+}
+
+// The running numbers after the symbol z with the decision d, e apart, and the mark of z. A detector value that is not finite counts as 0; where it is
+// finite, z is. Two calls: where p is chosen before one call, the next sample waits for the choice, 3 ns. Out of line a sample takes 3 ns longer.
+#[inline(always)]
+#[tactic(auto, unfolding(definition::specs::Sample::phase_error), using(crate::proofs::OnScale::mark_is))]
+fn tracked(s: EqualizeState, z: C32, d: C32, e: C32) -> Marked
+    ensures track { result.track ≡ track_of s (mse_after s.mse (norm e)) (phase_error z d) }
+    ensures mark { result.mark ≡ live_mark z }
 {
     let p = complex::times_conj(z, d).im;
     let mse = mean(s.mse, e);
     if numeric::is_finite(p) {
-        turned(s, mse, p)
+        Marked {
+            track: turned(s, mse, p),
+            mark: Mark::Heard,
+        }
     } else {
-        turned(s, mse, 0.0)
+        Marked {
+            track: turned(s, mse, 0.0),
+            mark: mark_of(z),
+        }
     }
 }
 
@@ -200,28 +228,21 @@ fn aim_of(s: EqualizeState, t: CosSin, y: C32, d: C32, e: C32) -> Aim
 
 // The update by the step size m and the error e, or none.
 #[tactic(auto, unfolding(crate::specs::Step::update_if, definition::specs::Floats::scaled_c))]
-fn update_of(live: bool, e: C32, m: f32) -> Update
-    ensures { result ≡ update_if live (scaled_c m e) }
+fn update_of(e: C32, m: f32) -> Update
+    ensures { result ≡ update_if true (scaled_c m e) }
 {
     let g = e.map(|v| m * v);
-    if live & numeric::finite_c(g) {
+    if numeric::finite_c(g) {
         Update::Step(g.re, g.im)
     } else {
         Update::Hold
     }
 }
 
-// What is fed back: zero where the window is silent.
-fn fed_if(live: bool, fed: C32) -> C32
-    ensures { result ≡ (if live then fed else zero_c) }
-{
-    if live { fed } else { C32::ZERO }
-}
-
-// Steps 4 to 7 with c and s, by the sum y, the forward power and the step size m. It has two callers, and out of line a sample of a run takes 3 to 5 ns
-// longer.
+// Steps 4 to 7 with c and s, by the sum y, the forward power and the step size m. Where the forward window is silent, nothing adapts, and (0, 0) is fed
+// back. It has two callers, and out of line a sample of a run takes 3 to 5 ns longer.
 #[inline(always)]
-#[tactic(auto, using(crate::proofs::Exits::step_is))]
+#[tactic(auto, using(crate::proofs::Exits::step_live, crate::proofs::Exits::step_silent))]
 pub fn step(s: EqualizeState, t: CosSin, y: C32, forward: f32, m: f32) -> Stepped
     ensures { result ≡ step_with s t y forward m }
 {
@@ -229,15 +250,24 @@ pub fn step(s: EqualizeState, t: CosSin, y: C32, forward: f32, m: f32) -> Steppe
     let d = constellation::decide(s.params.constellation, z);
     let e = z - d;
     let a = aim_of(s, t, y, d, e);
-    let live = forward != 0.0;
-    let update = update_of(live, a.e, m);
-    let fed = fed_if(live, a.fed);
-    let track = tracked(s, z, d, e);
-    Stepped {
-        track,
-        z,
-        fed,
-        update,
+    let Marked { track, mark } = tracked(s, z, d, e);
+    if forward == 0.0 {
+        let fed = C32::ZERO;
+        Stepped {
+            track,
+            z,
+            fed,
+            update: Update::Hold,
+            mark: Mark::Silent,
+        }
+    } else {
+        Stepped {
+            track,
+            z,
+            fed: a.fed,
+            update: update_of(a.e, m),
+            mark,
+        }
     }
 }
 

@@ -1,7 +1,7 @@
 -- The number of each case of an enum, said once: the maps back go through the list of the cases.
 use Rattle.std.specs.Prelude.{ℕ, Bool, false, cond, ◌||◌, List, [], ◌∷◌, eqb, Option, Some, None, Result, Ok, Err}
 use Rattle.types.specs.declared.Mark.{Mark}
-use Rattle.types.specs.declared.Mark.TheVariants.{Heard, Blank, Spilled}
+use Rattle.types.specs.declared.Mark.TheVariants.{Heard, Blank, Spilled, Silent, OffScale}
 use Rattle.types.specs.declared.EqMode.{EqMode}
 use Rattle.types.specs.declared.EqMode.TheVariants.{Cma, Decision}
 use Rattle.types.specs.declared.EqConstellation.{EqConstellation}
@@ -48,11 +48,14 @@ constellation_number Psk8 = 2
 constellation_number Qam16 = 3
 constellation_number Qam64 = 4
 
--- the marks of document 01: heard; blank, the sample is not finite; spilled, the sample is finite and the filter sum y is not
+-- the marks, tried in the order 1, 2, 3, 4: blank, the sample is not finite; spilled, the filter sum y is not;
+-- silent, the forward power F is 0; off scale, the output z has a part that is not finite; heard, none of these
 abbrev pub mark_number : Mark → ℕ
 mark_number Heard = 0
 mark_number Blank = 1
 mark_number Spilled = 2
+mark_number Silent = 3
+mark_number OffScale = 4
 
 -- ---- from a number back to its case
 
@@ -74,7 +77,7 @@ abbrev pub modes : List EqMode
 modes = Cma ∷ Decision ∷ []
 
 abbrev pub marks : List Mark
-marks = Heard ∷ Blank ∷ Spilled ∷ []
+marks = Heard ∷ Blank ∷ Spilled ∷ Silent ∷ OffScale ∷ []
 
 abbrev pub known_constellation : ℕ → Bool
 known_constellation n = known constellation_number constellations n
@@ -92,7 +95,7 @@ abbrev pub known_mark : ℕ → Bool
 known_mark n = known mark_number marks n
 
 abbrev pub mark_of : ℕ → Mark
-mark_of n = case_of mark_number marks Spilled n
+mark_of n = case_of mark_number marks OffScale n
 
 -- ---- read: the case, or that no case has the number
 
@@ -106,4 +109,4 @@ abbrev pub read_mode : ℕ → Result EqMode UnknownNumber
 read_mode n = read mode_number modes Decision n
 
 abbrev pub read_mark : ℕ → Result Mark UnknownNumber
-read_mark n = read mark_number marks Spilled n
+read_mark n = read mark_number marks OffScale n

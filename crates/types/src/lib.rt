@@ -140,12 +140,15 @@ pub struct Equalized {
     pub outcome: Result<(), Error>,
 }
 
-// Whether a sample was heard: blank where it is not finite, spilled where it is finite and its filter sum is not.
+// What a sample was: the first of blank, spilled, silent, off scale that it is, or else heard. Blank: it is not finite. Spilled: its filter sum y is not.
+// Silent: the forward power F is 0. Off scale: its symbol has a part that is not finite.
 #[derive(Clone, Copy, Debug, PartialEq, Eq)]
 pub enum Mark {
     Heard,
     Blank,
     Spilled,
+    Silent,
+    OffScale,
 }
 
 // The update of the weights: a step with two floats, or none. The specification names this form, in place of an `Option`.

@@ -59,11 +59,15 @@ impl Mark {
 
     pub const SPILLED: u8 = 2;
 
+    pub const SILENT: u8 = 3;
+
+    pub const OFF_SCALE: u8 = 4;
+
     // The mark with the number n; the last for a number of none, as in the two below. For those who read marks: no call here does.
     pub fn of(n: u8) -> Mark
         ensures { result ≡ mark_of n }
     {
-        Mark::try_from(n).unwrap_or(Mark::Spilled)
+        Mark::try_from(n).unwrap_or(Mark::OffScale)
     }
 }
 
@@ -75,6 +79,8 @@ impl From<Mark> for u8 {
             Mark::Heard => Mark::HEARD,
             Mark::Blank => Mark::BLANK,
             Mark::Spilled => Mark::SPILLED,
+            Mark::Silent => Mark::SILENT,
+            Mark::OffScale => Mark::OFF_SCALE,
         }
     }
 }
@@ -89,6 +95,8 @@ impl TryFrom<u8> for Mark {
             Mark::HEARD => Ok(Mark::Heard),
             Mark::BLANK => Ok(Mark::Blank),
             Mark::SPILLED => Ok(Mark::Spilled),
+            Mark::SILENT => Ok(Mark::Silent),
+            Mark::OFF_SCALE => Ok(Mark::OffScale),
             _ => Err(UnknownNumber {
                 number: u32::from(n),
             }),
