@@ -99,8 +99,9 @@ def main():
             out.append(f'<path d="{d}" fill="none" stroke="{colour}" stroke-width="1.8"/>')
 
     strip = top + height + 34
-    out.append(text(left, strip - 8, "marks: heard, and in red blank", 13))
-    for mark, colour in ((0, "#b9c6d3"), (1, LOST), (2, "#7d3c98")):
+    kinds = ((0, "#b9c6d3", "heard"), (1, LOST, "in red blank"), (2, "#7d3c98", "in purple spilled"), (3, INK, "in black silent"), (4, "#d68910", "in orange off scale"))
+    out.append(text(left, strip - 8, "marks: " + ", and ".join(words for mark, _, words in kinds if mark in marks), 13))
+    for mark, colour, _ in kinds:
         for a, b in runs_of(marks, mark):
             out.append(f'<rect x="{across(a):.1f}" y="{strip}" width="{across(b) - across(a):.1f}" height="16" fill="{colour}"/>')
     step = 10 ** max(int(math.log10(count)), 0) // 2 or 1

@@ -26,11 +26,13 @@
 extern "C" {
 #endif
 
-/* The mark of a sample. */
+/* The mark of a sample: the first of 1, 2, 3, 4 that fits, or 0. */
 enum eq_mark {
-    EQ_HEARD = 0,
-    EQ_BLANK = 1,   /* the sample is not finite: its symbol is (0, 0) */
-    EQ_SPILLED = 2  /* the sample is finite, its filter sum is not: its symbol is (0, 0) */
+    EQ_HEARD = 0,    /* none of these: the symbol is finite */
+    EQ_BLANK = 1,    /* the sample is not finite: its symbol is (0, 0) */
+    EQ_SPILLED = 2,  /* the sample is finite, its filter sum is not: its symbol is (0, 0) */
+    EQ_SILENT = 3,   /* the forward window has power 0: nothing adapts; the symbol need not be zero or finite */
+    EQ_OFF_SCALE = 4 /* the symbol has a part that is not finite */
 };
 
 /* The number of a reply; eq_strerror has the same words. Lengths are in complex samples, of marks in bytes. */

@@ -202,7 +202,7 @@ says 'cannot make absent/x.part: there is no such file or folder; nothing was wr
 
 echo before > x
 run 1 --in cut --out x --marks x.marks
-says '100 samples: 100 heard, 0 blank, 0 spilled'
+says '100 samples: 100 heard, 0 blank, 0 spilled, 0 silent, 0 off scale'
 says 'the input is truncated: 4 bytes are left over, and a sample has 8'
 says 'x is from before this run and was left as it is; what this run served is in x.part'
 says 'what was served is in x.marks.part'
@@ -244,7 +244,18 @@ rm -f x.part
 run 0 --in short --text
 [ "$(wc -l < out)" -eq 400 ] || wrong 'not 400 lines'
 [ "$(grep -c '#' out)" -eq 0 ] || wrong 'a message is on standard output'
-says '400 samples: 300 heard, 100 blank, 0 spilled'
+says '400 samples: 300 heard, 100 blank, 0 spilled, 0 silent, 0 off scale'
+
+# zeros are silent; (3e38, 3e38) and then (0, 0) give a symbol that is off scale
+head -c 80 /dev/zero > zeros
+run 0 --in zeros --out x --marks x.marks
+says '10 samples: 0 heard, 0 blank, 0 spilled, 10 silent, 0 off scale'
+[ "$(od -An -tu1 x.marks | tr -d ' \n')" = 3333333333 ] || wrong 'not every mark is 3'
+printf '\346\261\141\177\346\261\141\177\0\0\0\0\0\0\0\0' > large
+run 0 --in large --taps 3 --frequency 0.125 --text
+says '2 samples: 1 heard, 0 blank, 0 spilled, 0 silent, 1 off scale'
+[ "$(tail -n 1 out)" = 'inf 0 4' ] || wrong "the second line is $(tail -n 1 out)"
+rm x x.marks zeros large
 
 run 0 --in short --text --out lines
 silent
@@ -356,7 +367,7 @@ while IFS= read -r line; do
         run 0 --in samples --out symbols --marks marks $options $way
         [ "$(sha256sum < symbols)" = "$sum  -" ] || wrong "the symbols are not the Rust's"
         same marks marked
-        says '13000 samples: 12828 heard, 172 blank, 0 spilled'
+        says '13000 samples: 12828 heard, 172 blank, 0 spilled, 0 silent, 0 off scale'
         # shellcheck disable=SC2086
         cat samples | "$program" $options $way > symbols 2> said || wrong 'it fails from a pipe'
         [ "$(sha256sum < symbols)" = "$sum  -" ] || wrong "from a pipe the symbols are not the Rust's"

@@ -9,7 +9,9 @@ enum { TAPS = 11, SAMPLES = 12 };
 
 int main(void)
 {
-    static const char *const says[] = {[EQ_HEARD] = "heard", [EQ_BLANK] = "blank", [EQ_SPILLED] = "spilled"};
+    static const char *const says[] = {
+        [EQ_HEARD] = "heard", [EQ_BLANK] = "blank", [EQ_SPILLED] = "spilled", [EQ_SILENT] = "silent", [EQ_OFF_SCALE] = "off scale",
+    };
     float weights[2 * TAPS], window[2 * TAPS], input[2 * SAMPLES], output[2 * SAMPLES];
     uint8_t marks[SAMPLES];
     EqSettings settings = EQ_DEFAULT_SETTINGS;

@@ -16,12 +16,17 @@ pub mod ffi;
 
 use ffi::{EqRecord, EqReply, EqSettings};
 
-/// The mark of a sample that was heard.
+/// The mark of a sample that was heard: none of the four below fits, and its symbol is finite. They
+/// are tried in their order.
 pub const HEARD: u8 = 0;
-/// Of one that is not finite.
+/// Of one that is not finite. Its symbol is (0, 0).
 pub const BLANK: u8 = 1;
-/// Of one that is finite where its filter sum is not.
+/// Of one that is finite where its filter sum is not. Its symbol is (0, 0).
 pub const SPILLED: u8 = 2;
+/// Of one whose forward window has power 0: nothing adapts. Its symbol need not be zero or finite.
+pub const SILENT: u8 = 3;
+/// Of one whose symbol has a part that is not finite.
+pub const OFF_SCALE: u8 = 4;
 
 /// The constellation, with its number. Its points have mean power 1.
 #[derive(Debug, Clone, Copy, PartialEq, Eq)]

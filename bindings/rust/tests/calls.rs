@@ -1,7 +1,9 @@
 //! Every method, every refusal, and the exported calls on numbers that no record has.
 
 use equalizer::ffi::{self, EqRecord, EqReply, EqSettings};
-use equalizer::{BLANK, Constellation, Equalizer, Error, HEARD, Mode, SPILLED, Settings};
+use equalizer::{
+    BLANK, Constellation, Equalizer, Error, HEARD, Mode, OFF_SCALE, SILENT, SPILLED, Settings,
+};
 
 const ALL: [Constellation; 5] = [
     Constellation::Bpsk,
@@ -180,6 +182,54 @@ fn blanks_and_spills() {
     let mut e = Equalizer::from_parts(record, vec![f32::MAX; 22], window);
     let (output, marks) = run(&mut e, &samples(1));
     assert_eq!((output, marks), (vec![0.0; 2], vec![SPILLED]));
+}
+
+/// One call of 70 samples: silence, a burst across sample 64, blanks in both. A sample is silent where
+/// it and all that its forward taps hold are zero.
+#[test]
+fn silence_and_a_burst() {
+    for (taps, feedback_taps) in [(3, 0), (11, 0), (5, 4)] {
+        let settings = Settings {
+            feedback_taps,
+            ..Settings::default()
+        };
+        let mut a = Equalizer::new(taps, settings).unwrap();
+        let mut b = a.clone();
+        let mut input = vec![0.0; 140];
+        input[120..132].copy_from_slice(&samples(6));
+        for i in [10, 41, 63, 68] {
+            input[2 * i] = f32::NAN;
+        }
+        input[4] = -0.0;
+        let zero = |i: usize| input[2 * i..2 * i + 2].iter().all(|&x| x == 0.0 || x.is_nan());
+        let expected: Vec<u8> = (0..70)
+            .map(|i| {
+                if input[2 * i].is_nan() {
+                    BLANK
+                } else if (i.saturating_sub(taps - 1)..=i).all(zero) {
+                    SILENT
+                } else {
+                    HEARD
+                }
+            })
+            .collect();
+        let (mut output, mut marks) = (vec![9.0; 140], vec![9; 70]);
+        b.reference(&input, &mut output, &mut marks).unwrap();
+        assert_eq!(marks, expected);
+        assert_eq!(run(&mut a, &input), (output, marks));
+        assert_eq!(a, b);
+        assert!([HEARD, BLANK, SILENT].iter().all(|m| expected.contains(m)));
+    }
+}
+
+/// The filter sum is finite, and turned by the phase it is not.
+#[test]
+fn off_scale() {
+    let mut e = Equalizer::new(3, Settings::default()).unwrap();
+    e.set_frequency(0.125);
+    let (output, marks) = run(&mut e, &[3e38, 3e38, 0.0, 0.0]);
+    assert_eq!(output, [0.0, 0.0, f32::INFINITY, 0.0]);
+    assert_eq!(marks, [HEARD, OFF_SCALE]);
 }
 
 #[test]

@@ -2,7 +2,9 @@
 //! says. Without a C compiler these tests are skipped, and say so.
 
 use equalizer::ffi::{EqRecord, EqReply, EqSettings};
-use equalizer::{BLANK, Constellation, Error, HEARD, Mode, SPILLED, Settings};
+use equalizer::{
+    BLANK, Constellation, Error, HEARD, Mode, OFF_SCALE, SILENT, SPILLED, Settings,
+};
 use std::any::type_name_of_val;
 use std::collections::HashMap;
 use std::io::{ErrorKind, Write, stderr};
@@ -79,6 +81,8 @@ fn numbers() {
         ("EQ_HEARD", HEARD.into()),
         ("EQ_BLANK", BLANK.into()),
         ("EQ_SPILLED", SPILLED.into()),
+        ("EQ_SILENT", SILENT.into()),
+        ("EQ_OFF_SCALE", OFF_SCALE.into()),
         ("EQ_BPSK", Constellation::Bpsk as u32),
         ("EQ_QPSK", Constellation::Qpsk as u32),
         ("EQ_PSK8", Constellation::Psk8 as u32),

@@ -88,8 +88,8 @@ fn counts(p: Program<'_>, t: Tally) {
     let mut line = Phrase::new();
     let _ = write!(
         line,
-        "{} samples: {} heard, {} blank, {} spilled",
-        t.samples, t.heard, t.blank, t.spilled
+        "{} samples: {} heard, {} blank, {} spilled, {} silent, {} off scale",
+        t.samples, t.heard, t.blank, t.spilled, t.silent, t.off_scale
     );
     if t.unknown > 0 {
         let _ = write!(line, ", {} unknown", t.unknown);
@@ -173,7 +173,7 @@ A sample that is not finite is a blank, and its symbol is (0, 0).
 
   --in FILE            samples (standard input)
   --out FILE           symbols (standard output)
-  --marks FILE         a byte for each sample: 0 heard, 1 blank, 2 spilled
+  --marks FILE         a byte for each sample: 0 heard, 1 blank, 2 spilled, 3 silent, 4 off scale
   --curve FILE         a line for each call: samples so far, mean error, mode
   --text               symbols as lines `re im mark`
   --constellation C    bpsk, qpsk, 8psk, 16qam or 64qam (qpsk)

@@ -64,6 +64,8 @@ pub struct Tally {
     pub heard: u64,
     pub blank: u64,
     pub spilled: u64,
+    pub silent: u64,
+    pub off_scale: u64,
     // Bytes that are no mark's number.
     pub unknown: u64,
 }
@@ -75,6 +77,8 @@ impl Tally {
             Ok(Mark::Heard) => &mut self.heard,
             Ok(Mark::Blank) => &mut self.blank,
             Ok(Mark::Spilled) => &mut self.spilled,
+            Ok(Mark::Silent) => &mut self.silent,
+            Ok(Mark::OffScale) => &mut self.off_scale,
             Err(_) => &mut self.unknown,
         };
         *count = count.saturating_add(1);
