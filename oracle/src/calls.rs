@@ -31,6 +31,7 @@ struct Seen {
     output_infinite: u64,
     error_power_infinite: u64,
     silent: u64,
+    off_scale: u64,
     power_infinite: u64,
     switches: u64,
     weights_set_back: u64,
@@ -159,26 +160,27 @@ fn sample_by_sample(case: &Case, seen: &mut Seen) -> (Answer, Vec<u8>) {
     for (x, z) in case.input.chunks(1).zip(a.output.chunks_mut(1)) {
         let before = a.state.clone();
         quick(&mut a.state, x, z);
-        let mark = mark(&before, x[0], &a.state);
+        let mark = mark(&before, x[0], z[0], &a.state);
         marks.push(mark);
         seen.samples += 1;
         seen.blank += u64::from(mark == 1);
         seen.spilled += u64::from(mark == 2);
+        seen.silent += u64::from(mark == 3);
+        seen.off_scale += u64::from(mark == 4);
         let size = z[0].re.abs().max(z[0].im.abs());
         seen.output_infinite += u64::from(size.is_infinite());
         seen.error_power_infinite += u64::from(size > 2e19);
         seen.switches += u64::from(before.mode() == EqMode::Cma && a.state.mode() != EqMode::Cma);
-        if mark == 0 {
+        if !matches!(mark, 1 | 2) {
             heard(&before, z[0], &a.state, seen);
         }
     }
     (a, marks)
 }
 
-/// What a sample with the output z did.
+/// What a sample that went through steps 4 to 7, with the output z, did.
 fn heard(before: &State, z: C32, after: &State, seen: &mut Seen) {
     let (power, back) = (power(after), set_back(before, after));
-    seen.silent += u64::from(power == 0.0);
     seen.power_infinite += u64::from(power.is_infinite());
     seen.weights_set_back += u64::from(back);
     seen.weights_flushed += u64::from(!back && fallen(before.weights(), after.weights()));
@@ -199,10 +201,15 @@ fn fallen(before: &[C32], after: &[C32]) -> bool {
     pairs.any(|(a, b)| a.re != 0.0 && b.re == 0.0 || a.im != 0.0 && b.im == 0.0)
 }
 
-/// The mark of a sample, from the states before and after it. The sum takes the forward window
-/// as shifted, the feedback window and the weights as they were.
-fn mark(before: &State, x: C32, after: &State) -> u8 {
-    if !(x.re.is_finite() && x.im.is_finite()) {
+fn is_finite(v: C32) -> bool {
+    v.re.is_finite() && v.im.is_finite()
+}
+
+/// The mark of a sample with the output z, from the states before and after it. The sum takes the
+/// forward window as shifted, the feedback window and the weights as they were; the forward window
+/// is the same after the sample.
+fn mark(before: &State, x: C32, z: C32, after: &State) -> u8 {
+    if !is_finite(x) {
         return 1;
     }
     let forward = before.taps();
@@ -211,10 +218,14 @@ fn mark(before: &State, x: C32, after: &State) -> u8 {
     let y = Document01Dot
         .dot_complex(&window, before.weights())
         .expect("the lengths agree");
-    if y.re.is_finite() && y.im.is_finite() {
-        0
-    } else {
+    if !is_finite(y) {
         2
+    } else if power(after) == 0.0 {
+        3
+    } else if !is_finite(z) {
+        4
+    } else {
+        0
     }
 }
 
