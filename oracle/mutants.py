@@ -47,10 +47,10 @@ SAME = {
 # what a word becomes: each of a pair the other, or the first of a pair the second
 EACH = """
 +f -f, +d *d, /f *f, /d *d, && ||, .re .im, .c .s, .weights .window, .kp .ki, .mu_cma .mu_dd, .input .output, .z .d, .F .P, re_at im_at, lt le, leb ltb, true false,
-zero32 one32, Cma Decision, take drop, Blank Spilled, wide tall, C8 S8, min max, up down, prod_re prod_im, new_re new_im, forward feedback, one64 two64, tau four64,
+zero32 one32, Cma Decision, take drop, Blank Spilled, Silent OffScale, wide tall, C8 S8, min max, up down, prod_re prod_im, new_re new_im, forward feedback, one64 two64, tau four64,
 bw_min bw_max, nlms_eps mse_alpha, n f, w h, x y, a b, expected got"""
 FIRST = """
-*f +f, .marks .output, .count .phase, Spilled Heard, Blank Heard, Heard Blank, forward all_taps, two64 four64, four64 two64, mu_min tiny, max_freq one32, tiny nlms_eps, m f"""
+*f +f, .marks .output, .count .phase, Spilled Heard, Blank Heard, Heard Blank, Silent Heard, OffScale Heard, Heard Silent, forward all_taps, two64 four64, four64 two64, mu_min tiny, max_freq one32, tiny nlms_eps, m f"""
 BECOMES = {}
 for a, b in (pair.split() for pair in (EACH + "," + FIRST).split(",")):
     BECOMES.setdefault(a, []).append(b)
