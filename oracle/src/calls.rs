@@ -10,7 +10,8 @@ use crate::kernels::dot::DotComplex;
 use crate::kernels::equalize::{
     EqMode, Equalize, EqualizeState, MSE_ALPHA, OracleRecord, equalize_with,
 };
-use crate::line::{Line, bits};
+use crate::line::{Line, bits, number};
+use crate::numbers;
 use crate::reference::dot::Document01Dot;
 use crate::types::C32;
 
@@ -20,6 +21,13 @@ type State = EqualizeState<Vec<C32>, Vec<C32>>;
 struct Answer {
     output: Vec<C32>,
     state: State,
+}
+
+/// A mark and a number for each sample, which the calls of the Rust do not give.
+#[derive(Default)]
+struct Notes {
+    marks: Vec<u8>,
+    numbers: Vec<u8>,
 }
 
 /// Which of the rarer things happened, over all cases.
@@ -32,6 +40,8 @@ struct Seen {
     error_power_infinite: u64,
     silent: u64,
     off_scale: u64,
+    /// Samples with a number, by constellation.
+    numbered: [u64; 5],
     power_infinite: u64,
     switches: u64,
     weights_set_back: u64,
@@ -50,8 +60,8 @@ pub fn write(out: &mut impl Write, seed: u64, count: u64, long: bool) -> io::Res
     let mut seen = Seen::default();
     for _ in 0..count {
         let case = case(&mut r, long);
-        let (answer, marks) = answer(&case, &mut seen);
-        line(&case, &answer, &marks).write(out)?;
+        let (answer, notes) = answer(&case, &mut seen);
+        line(&case, &answer, &notes).write(out)?;
     }
     out.flush()?;
     eprintln!("calls: {count} lines, {seen:?}");
@@ -69,8 +79,8 @@ pub fn write_places(out: &mut impl Write, seed: u64, rounds: u64) -> io::Result<
         let cuts = (0..=200).map(|k| base.with_blocks([k, 200 - k]));
         let switches = (0..64).map(|p| base.switching_after(p + 1));
         for case in cuts.chain(switches) {
-            let (answer, marks) = answer(&case, &mut seen);
-            line(&case, &answer, &marks).write(out)?;
+            let (answer, notes) = answer(&case, &mut seen);
+            line(&case, &answer, &notes).write(out)?;
             lines += 1;
         }
     }
@@ -82,12 +92,12 @@ pub fn write_places(out: &mut impl Write, seed: u64, rounds: u64) -> io::Result<
 /// Writes one case.
 pub fn write_one(out: &mut impl Write, case: &Case) -> io::Result<bool> {
     let mut seen = Seen::default();
-    let (answer, marks) = answer(case, &mut seen);
-    line(case, &answer, &marks).write(out)?;
+    let (answer, notes) = answer(case, &mut seen);
+    line(case, &answer, &notes).write(out)?;
     Ok(seen.disagreements == 0)
 }
 
-fn line(case: &Case, answer: &Answer, marks: &[u8]) -> Line {
+fn line(case: &Case, answer: &Answer, notes: &Notes) -> Line {
     let mut line = Line::default();
     line.record(&case.record);
     line.count(case.weights.len());
@@ -97,7 +107,8 @@ fn line(case: &Case, answer: &Answer, marks: &[u8]) -> Line {
     line.given_all(&case.window);
     line.given_all(&case.input);
     line.result_all(&answer.output);
-    line.marks(marks);
+    line.marks(&notes.marks);
+    line.numbers(&notes.numbers);
     line.record(&answer.state.oracle_record());
     line.result_all(answer.state.weights());
     line.result_all(answer.state.history());
@@ -131,17 +142,17 @@ fn plain(s: &mut State, x: &[C32], y: &mut [C32]) {
     Reference.equalize(s, x, y).expect("the lengths agree");
 }
 
-/// The answer of `equalize_with`, and the marks. `Reference` and a run sample by sample have to
+/// The answer of `equalize_with`, and the notes. `Reference` and a run sample by sample have to
 /// agree with it.
-fn answer(case: &Case, seen: &mut Seen) -> (Answer, Vec<u8>) {
+fn answer(case: &Case, seen: &mut Seen) -> (Answer, Notes) {
     let a = run(case, &case.blocks, quick);
     let b = run(case, &case.blocks, plain);
-    let (c, marks) = sample_by_sample(case, seen);
+    let (c, notes) = sample_by_sample(case, seen);
     for (other, name) in [(&b, "Reference"), (&c, "sample by sample")] {
         if !agree(&a, other) {
             seen.disagreements += 1;
             let mut text = Vec::new();
-            line(case, &a, &marks)
+            line(case, &a, &notes)
                 .write(&mut text)
                 .expect("a Vec takes any text");
             eprintln!("DISAGREEMENT of equalize_with and {name} in this case:");
@@ -151,22 +162,28 @@ fn answer(case: &Case, seen: &mut Seen) -> (Answer, Vec<u8>) {
     seen.no_samples += u64::from(case.input.is_empty());
     seen.two_calls += u64::from(case.blocks[1] > 0);
     seen.mse_not_finite += u64::from(!a.state.oracle_record().mse.is_finite());
-    (a, marks)
+    (a, notes)
 }
 
-fn sample_by_sample(case: &Case, seen: &mut Seen) -> (Answer, Vec<u8>) {
+fn sample_by_sample(case: &Case, seen: &mut Seen) -> (Answer, Notes) {
     let mut a = start(case);
-    let mut marks = Vec::new();
+    let mut notes = Notes::default();
+    let k = case.record.params.constellation;
     for (x, z) in case.input.chunks(1).zip(a.output.chunks_mut(1)) {
         let before = a.state.clone();
         quick(&mut a.state, x, z);
         let mark = mark(&before, x[0], z[0], &a.state);
-        marks.push(mark);
+        notes.marks.push(mark);
+        notes.numbers.push(match mark {
+            0 => numbers::number(k, z[0]),
+            _ => numbers::NONE,
+        });
         seen.samples += 1;
         seen.blank += u64::from(mark == 1);
         seen.spilled += u64::from(mark == 2);
         seen.silent += u64::from(mark == 3);
         seen.off_scale += u64::from(mark == 4);
+        seen.numbered[number(k) as usize] += u64::from(mark == 0);
         let size = z[0].re.abs().max(z[0].im.abs());
         seen.output_infinite += u64::from(size.is_infinite());
         seen.error_power_infinite += u64::from(size > 2e19);
@@ -175,7 +192,7 @@ fn sample_by_sample(case: &Case, seen: &mut Seen) -> (Answer, Vec<u8>) {
             heard(&before, z[0], &a.state, seen);
         }
     }
-    (a, marks)
+    (a, notes)
 }
 
 /// What a sample that went through steps 4 to 7, with the output z, did.

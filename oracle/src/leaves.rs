@@ -17,6 +17,7 @@ use crate::kernels::dot::DotComplex;
 use crate::kernels::equalize::{EqConstellation, PHASE_DAMPING, clip, rotate};
 use crate::line::bits;
 use crate::num::flush_denormal;
+use crate::numbers;
 use crate::reference::dot::Document01Dot;
 use crate::types::C32;
 
@@ -434,7 +435,7 @@ fn turned(seed: u64) -> Vec<(C32, f32, f32)> {
     cases
 }
 
-// ---- decisions: octant_point, decide_level, decide, cma_r2 ----
+// ---- decisions: octant_point, decide_level, decide_symbol, decide, cma_r2 ----
 
 fn write_decisions(folder: &Path) -> io::Result<usize> {
     let mut lines = 0;
@@ -446,6 +447,7 @@ fn write_decisions(folder: &Path) -> io::Result<usize> {
             .given(y.im)
             .result(re)
             .result(im)
+            .whole(numbers::place(&numbers::PSK8, (re, im)).into())
             .end_line()?;
     }
     lines += leaf.finish()?;
@@ -462,6 +464,24 @@ fn write_decisions(folder: &Path) -> io::Result<usize> {
     }
     lines += leaf.finish()?;
 
+    let mut leaf = Leaf::new(folder, "decide_symbol")?;
+    for (number, k, qam) in [
+        (3, EqConstellation::Qam16, Qam::Qam16),
+        (4, EqConstellation::Qam64, Qam::Qam64),
+    ] {
+        let mut cases = edge_pairs();
+        cases.extend(qam.point_table());
+        cases.extend(points(15, k));
+        for y in cases {
+            leaf.whole(number)
+                .given(y.re)
+                .given(y.im)
+                .whole(numbers::symbol(qam, y))
+                .end_line()?;
+        }
+    }
+    lines += leaf.finish()?;
+
     let mut leaf = Leaf::new(folder, "decide")?;
     for (number, k) in CONSTELLATIONS.into_iter().enumerate() {
         for y in points(13, k) {
@@ -471,6 +491,7 @@ fn write_decisions(folder: &Path) -> io::Result<usize> {
                 .given(y.im)
                 .result(d.re)
                 .result(d.im)
+                .whole(numbers::number(k, y).into())
                 .end_line()?;
         }
     }
@@ -483,15 +504,18 @@ fn write_decisions(folder: &Path) -> io::Result<usize> {
     Ok(lines + leaf.finish()?)
 }
 
+/// Every two of a few edges.
+fn edge_pairs() -> Vec<C32> {
+    let few = few_edges();
+    few.iter()
+        .flat_map(|&a| few.iter().map(move |&b| C32::new(a, b)))
+        .collect()
+}
+
 /// Points on and beside the borders of the octants, edges in either part, random ones.
 fn octant_borders(seed: u64, random: usize) -> Vec<C32> {
     let mut r = Random::new(seed);
-    let mut cases = Vec::new();
-    for a in few_edges() {
-        for b in few_edges() {
-            cases.push(C32::new(a, b));
-        }
-    }
+    let mut cases = edge_pairs();
     for _ in 0..60 {
         let a = r.within(2.0);
         for b in both_signs(&around(a)) {

@@ -81,6 +81,14 @@ impl Line {
         }
     }
 
+    /// Numbers: four to a word, two digits each, the first in the highest.
+    pub fn numbers(&mut self, numbers: &[u8]) {
+        for four in numbers.chunks(4) {
+            let bytes = four.iter().zip(0..);
+            self.whole(bytes.fold(0, |n, (&b, i)| n | u32::from(b) << (24 - 8 * i)));
+        }
+    }
+
     pub fn write(&self, out: &mut impl io::Write) -> io::Result<()> {
         writeln!(out, "{}", self.0)
     }

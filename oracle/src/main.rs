@@ -13,6 +13,7 @@ mod given;
 mod inputs;
 mod leaves;
 mod line;
+mod numbers;
 mod others;
 mod recording;
 
