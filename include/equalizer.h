@@ -1,15 +1,16 @@
 /* The adaptive equalizer, for C and C++. Samples are interleaved floats, real part first. Weights and window are the caller's, of equal length:
- * forward taps, then feedback taps, newest first in each. A slice is a pointer and its count of floats (of bytes for marks).
+ * forward taps, then feedback taps, newest first in each. A slice is a pointer and its count of floats (of bytes for marks and numbers).
  *
  * Refusals: every call returns, with a refusal where it is not served, and a refused call leaves the record and all slices as they came. The reply
  *   has the first number that applies, in the order given at each call. A window of another length than the weights is 4 at eq_new, and 8 at
  *   eq_reset, eq_equalize and eq_reference.
  * Pointers must be valid for their count; a count of 0 still wants a pointer that is not null. A slice that a call writes (weights, window, output,
- *   marks) must not overlap any other slice of that call, or its behaviour is undefined: input and output may not be the same buffer.
+ *   marks, numbers) must not overlap any other slice of that call, or its behaviour is undefined: input and output may not be the same buffer. Who
+ *   wants no marks or no numbers lends a slice for them all the same.
  * Threads: there is no global state, and no memory is asked for. Calls on different records and slices may run at once; the calls of one record come
  *   one after the other, each with the record that the last one replied.
  * Delay: the symbol of sample i belongs to the sample (forward taps - 1) / 2 earlier, that of the centre tap, where a blind start near the right level
- *   settles; its mark belongs to sample i itself. README has what that means after a gap.
+ *   settles; its number goes with the symbol, its mark belongs to sample i itself. README has what that means after a gap.
  * Level: the points of each constellation have mean power 1. Bring the input near that level. */
 #ifndef EQUALIZER_H
 #define EQUALIZER_H
@@ -35,7 +36,16 @@ enum eq_mark {
     EQ_OFF_SCALE = 4 /* the symbol has a part that is not finite */
 };
 
-/* The number of a reply; eq_strerror has the same words. Lengths are in complex samples, of marks in bytes. */
+/* The number of a symbol with mark 0: the point that it is decided to. Levels are counted from the lowest, 0, and g is their Gray code.
+ *   BPSK    1 if the real part is below 0, else 0
+ *   QPSK    2 if the real part is below 0, plus 1 if the imaginary part is below 0
+ *   8-PSK   0 to 7, counter-clockwise from the point at a sixteenth of a turn
+ *   16-QAM  4 g of the real part's level, plus g of the imaginary part's; g of the levels 0 to 3 is 0 1 3 2
+ *   64-QAM  8 g of the real part's level, plus g of the imaginary part's; g of the levels 0 to 7 is 0 1 3 2 6 7 5 4
+ * A symbol with another mark has: */
+#define EQ_NO_NUMBER 255
+
+/* The number of a reply; eq_strerror has the same words. Lengths are in complex samples, of marks and numbers in bytes. */
 enum eq_number {
     EQ_SERVED = 0,
     EQ_ODD = 1,       /* a complex slice has an odd count of floats */
@@ -47,7 +57,8 @@ enum eq_number {
     EQ_BANDWIDTH = 7, /* the bandwidth is neither 0 nor 0.0001 to 0.2 */
     EQ_RECORD = 8,    /* the record breaks a rule, or a number of it stands for no constellation or mode */
     EQ_OUTPUT = 9,    /* the output's length is not the input's: expected, got */
-    EQ_MARKS = 10     /* the marks' length is not the input's: expected, got */
+    EQ_MARKS = 10,    /* the marks' length is not the input's: expected, got */
+    EQ_NUMBERS = 13   /* the numbers' length is not the input's */
 };
 
 enum eq_constellation { EQ_BPSK = 0, EQ_QPSK = 1, EQ_PSK8 = 2, EQ_QAM16 = 3, EQ_QAM64 = 4 };
@@ -101,6 +112,7 @@ static inline const char *eq_strerror(uint32_t number)
     case EQ_RECORD: return "the record breaks a rule, or a number of it stands for no constellation or mode";
     case EQ_OUTPUT: return "the output's length is not the input's";
     case EQ_MARKS: return "the marks' length is not the input's";
+    case EQ_NUMBERS: return "the numbers' length is not the input's";
     default: return "unknown number";
     }
 }
@@ -119,14 +131,17 @@ EqReply eq_set_mu_dd(EqRecord record, float mu);
 /* The tracker's frequency: held to 0.125, below 1e-30 is 0, a NaN is 0. Refusal 8 for an unknown constellation or mode. */
 EqReply eq_set_frequency(EqRecord record, float freq);
 
-/* A block: a symbol and a mark for each sample. Quick path without feedback taps, joint path with them, sample by sample where a block is short: the
- * answer is the same. A block may be empty, and the cut of a stream into blocks does not matter. Refusals 1, 8, 9 and 10. */
+/* A block: a symbol, a mark and a number for each sample. Quick path without feedback taps, joint path with them, sample by sample where a block is
+ * short: the answer is the same. A block may be empty, and the cut of a stream into blocks does not matter. Refusals 1, 8, 9, 10 and 13, in this order;
+ * 13 comes without lengths. */
 EqReply eq_equalize(EqRecord record, float *weights, size_t weights_count, float *window, size_t window_count,
-                    const float *input, size_t input_count, float *output, size_t output_count, uint8_t *marks, size_t marks_count);
+                    const float *input, size_t input_count, float *output, size_t output_count, uint8_t *marks, size_t marks_count,
+                    uint8_t *numbers, size_t numbers_count);
 
 /* The same by the plain path. */
 EqReply eq_reference(EqRecord record, float *weights, size_t weights_count, float *window, size_t window_count,
-                     const float *input, size_t input_count, float *output, size_t output_count, uint8_t *marks, size_t marks_count);
+                     const float *input, size_t input_count, float *output, size_t output_count, uint8_t *marks, size_t marks_count,
+                     uint8_t *numbers, size_t numbers_count);
 
 #ifdef __cplusplus
 }

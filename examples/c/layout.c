@@ -35,5 +35,7 @@ static_assert(offsetof(EqReply, number) == 64, "number");
 static_assert(offsetof(EqReply, expected) == 72, "expected");
 static_assert(offsetof(EqReply, got) == 80, "got");
 
+static_assert(EQ_NO_NUMBER == UINT8_MAX, "in a byte");
+
 /* an initializer in both languages */
 EqSettings layout_settings = EQ_DEFAULT_SETTINGS;

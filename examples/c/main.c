@@ -13,7 +13,7 @@ int main(void)
         [EQ_HEARD] = "heard", [EQ_BLANK] = "blank", [EQ_SPILLED] = "spilled", [EQ_SILENT] = "silent", [EQ_OFF_SCALE] = "off scale",
     };
     float weights[2 * TAPS], window[2 * TAPS], input[2 * SAMPLES], output[2 * SAMPLES];
-    uint8_t marks[SAMPLES];
+    uint8_t marks[SAMPLES], numbers[SAMPLES];
     EqSettings settings = EQ_DEFAULT_SETTINGS;
     EqReply r = eq_new(settings, weights, 2 * TAPS, window, 2 * TAPS);
     if (r.number != EQ_SERVED) {
@@ -28,14 +28,18 @@ int main(void)
     }
     input[2 * 8] = NAN;
 
-    r = eq_equalize(r.record, weights, 2 * TAPS, window, 2 * TAPS, input, 2 * SAMPLES, output, 2 * SAMPLES, marks, SAMPLES);
+    r = eq_equalize(r.record, weights, 2 * TAPS, window, 2 * TAPS, input, 2 * SAMPLES, output, 2 * SAMPLES, marks, SAMPLES, numbers, SAMPLES);
     printf("equalize: %s, count %u, mean error %.4f\n", eq_strerror(r.number), (unsigned)r.record.count, r.record.mse);
-    for (int i = 0; i < SAMPLES; i++)
-        printf("%2d  %8.5f %8.5f  %s\n", i, output[2 * i], output[2 * i + 1],
+    for (int i = 0; i < SAMPLES; i++) {
+        printf("%2d  %8.5f %8.5f  %s", i, output[2 * i], output[2 * i + 1],
                marks[i] < sizeof says / sizeof *says ? says[marks[i]] : "unknown");
+        if (numbers[i] != EQ_NO_NUMBER)
+            printf(", point %u", (unsigned)numbers[i]);
+        printf("\n");
+    }
 
     /* one mark too few */
-    r = eq_equalize(r.record, weights, 2 * TAPS, window, 2 * TAPS, input, 2 * SAMPLES, output, 2 * SAMPLES, marks, SAMPLES - 1);
+    r = eq_equalize(r.record, weights, 2 * TAPS, window, 2 * TAPS, input, 2 * SAMPLES, output, 2 * SAMPLES, marks, SAMPLES - 1, numbers, SAMPLES);
     printf("refused: number %u, %s: expected %zu, got %zu\n", (unsigned)r.number, eq_strerror(r.number), r.expected, r.got);
     return 0;
 }
