@@ -56,7 +56,7 @@ pub struct EqReply {
     pub got: usize,
 }
 
-/// A call over a block: the record, then weights, window, input, output and marks.
+/// A call over a block: the record, then weights, window, input, output, marks and numbers.
 pub type Block = unsafe extern "C" fn(
     EqRecord,
     *mut f32,
@@ -66,6 +66,8 @@ pub type Block = unsafe extern "C" fn(
     *const f32,
     usize,
     *mut f32,
+    usize,
+    *mut u8,
     usize,
     *mut u8,
     usize,
@@ -94,7 +96,7 @@ unsafe extern "C" {
     pub safe fn eq_set_mu_dd(record: EqRecord, mu: f32) -> EqReply;
     /// The tracker's frequency.
     pub safe fn eq_set_frequency(record: EqRecord, freq: f32) -> EqReply;
-    /// A block: a symbol and a mark for each sample.
+    /// A block: a symbol, a mark and a number for each sample.
     pub fn eq_equalize(
         record: EqRecord,
         weights: *mut f32,
@@ -107,6 +109,8 @@ unsafe extern "C" {
         output_count: usize,
         marks: *mut u8,
         marks_count: usize,
+        numbers: *mut u8,
+        numbers_count: usize,
     ) -> EqReply;
     /// The same by the plain path.
     pub fn eq_reference(
@@ -121,5 +125,7 @@ unsafe extern "C" {
         output_count: usize,
         marks: *mut u8,
         marks_count: usize,
+        numbers: *mut u8,
+        numbers_count: usize,
     ) -> EqReply;
 }

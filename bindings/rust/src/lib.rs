@@ -7,7 +7,7 @@
 //! - Threads: the library has no global state. An `Equalizer` is `Send` and `Sync`, and different
 //!   ones may be called at once.
 //! - Delay: the symbol of sample i belongs to the sample (forward taps - 1) / 2 earlier, that of the
-//!   centre tap; its mark belongs to sample i itself.
+//!   centre tap; its number goes with the symbol, its mark belongs to sample i itself.
 //! - Level: the points of each constellation have mean power 1. Bring the input near that level.
 
 #![warn(missing_docs)]
@@ -28,18 +28,26 @@ pub const SILENT: u8 = 3;
 /// Of one whose symbol has a part that is not finite.
 pub const OFF_SCALE: u8 = 4;
 
-/// The constellation, with its number. Its points have mean power 1.
+/// The number of a symbol whose mark is not [`HEARD`]. Of any other it is that of the point it is
+/// decided to: see [`Constellation`].
+pub const NO_NUMBER: u8 = 255;
+
+/// The constellation, with its number. Its points have mean power 1. Each says the number of a point
+/// too; levels are counted from the lowest, 0, and g is their Gray code.
 #[derive(Debug, Clone, Copy, PartialEq, Eq)]
 pub enum Constellation {
-    /// (±1, 0).
+    /// (±1, 0). The number is 1 if the real part is below 0, else 0.
     Bpsk = 0,
-    /// (±A, ±A), A being 1 / sqrt 2.
+    /// (±A, ±A), A being 1 / sqrt 2. The number is 2 if the real part is below 0, plus 1 if the
+    /// imaginary part is below 0.
     Qpsk = 1,
-    /// 8-PSK: at odd sixteenths of a turn.
+    /// 8-PSK: at odd sixteenths of a turn. The numbers are 0 to 7, counter-clockwise from the first.
     Psk8 = 2,
-    /// 16-QAM: parts ±1 and ±3 over sqrt 10.
+    /// 16-QAM: parts ±1 and ±3 over sqrt 10. The number is 4 g of the real part's level, plus g of
+    /// the imaginary part's; g of the levels 0 to 3 is 0 1 3 2.
     Qam16 = 3,
-    /// 64-QAM: parts ±1, ±3, ±5 and ±7 over sqrt 42.
+    /// 64-QAM: parts ±1, ±3, ±5 and ±7 over sqrt 42. The number is 8 g of the real part's level, plus
+    /// g of the imaginary part's; g of the levels 0 to 7 is 0 1 3 2 6 7 5 4.
     Qam64 = 4,
 }
 
@@ -111,13 +119,14 @@ pub struct Record {
     pub freq: f32,
 }
 
-/// The refusals, 1 to 10 in this order. Lengths are in complex samples, of marks in bytes.
+/// The refusals, 1 to 10 and 13 in this order. Lengths are in complex samples, of marks and numbers
+/// in bytes.
 ///
 /// ```
 /// use equalizer::{Equalizer, Error, Settings};
 ///
 /// let mut e = Equalizer::new(11, Settings::default())?;
-/// let why = e.equalize(&[0.7; 40], &mut [0.0; 38], &mut [0; 20]).unwrap_err();
+/// let why = e.equalize(&[0.7; 40], &mut [0.0; 38], &mut [0; 20], &mut [0; 20]).unwrap_err();
 /// assert_eq!(why, Error::Output { expected: 20, got: 19 });
 /// assert_eq!(why.number(), 9);
 /// assert_eq!(
@@ -163,12 +172,14 @@ pub enum Error {
         /// The marks'.
         got: usize,
     },
+    /// The numbers' length is not the input's.
+    Numbers,
     /// A number that none of these has.
     Unknown(u32),
 }
 
 impl Error {
-    /// The number of the refusal: 1 to 10, or one that is not known here.
+    /// The number of the refusal: 1 to 10, 13, or one that is not known here.
     pub fn number(self) -> u32 {
         match self {
             Error::Odd => 1,
@@ -181,6 +192,7 @@ impl Error {
             Error::Record => 8,
             Error::Output { .. } => 9,
             Error::Marks { .. } => 10,
+            Error::Numbers => 13,
             Error::Unknown(number) => number,
         }
     }
@@ -202,6 +214,7 @@ impl Error {
             }
             Error::Output { .. } => "the output's length is not the input's",
             Error::Marks { .. } => "the marks' length is not the input's",
+            Error::Numbers => "the numbers' length is not the input's",
             Error::Unknown(_) => "unknown number",
         }
     }
@@ -243,6 +256,7 @@ fn outcome(r: EqReply) -> Result<EqRecord, Error> {
         8 => Error::Record,
         9 => Error::Output { expected, got },
         10 => Error::Marks { expected, got },
+        13 => Error::Numbers,
         unknown => Error::Unknown(unknown),
     })
 }
@@ -250,13 +264,14 @@ fn outcome(r: EqReply) -> Result<EqRecord, Error> {
 /// An equalizer with its weights and window. A refused call leaves it as it was.
 ///
 /// ```
-/// use equalizer::{BLANK, Equalizer, Error, Settings};
+/// use equalizer::{BLANK, Equalizer, Error, NO_NUMBER, Settings};
 ///
 /// let mut e = Equalizer::new(3, Settings::default())?;
 /// let input = [0.7, 0.7, f32::NAN, 0.0, -0.7, 0.7, 0.7, -0.7]; // four samples, one of them lost
-/// let (mut output, mut marks) = ([9.0; 8], [9; 4]);
-/// e.equalize(&input, &mut output, &mut marks)?;
+/// let (mut output, mut marks, mut numbers) = ([9.0; 8], [9; 4], [9; 4]);
+/// e.equalize(&input, &mut output, &mut marks, &mut numbers)?;
 /// assert_eq!(marks, [0, BLANK, 0, 0]);
+/// assert_eq!(numbers, [0, NO_NUMBER, 0, 2]);
 /// assert_eq!(output[2..4], [0.0, 0.0]);
 /// assert_eq!(e.count(), 4);
 /// # Ok::<(), Error>(())
@@ -357,16 +372,17 @@ impl Equalizer {
         served.expect("this type's records have known numbers, and nothing else is refused");
     }
 
-    /// A block: a symbol and a mark for each sample. It may be empty, and the cut of a stream into
-    /// blocks does not matter. Refusals 1, 8, 9 and 10.
+    /// A block: a symbol, a mark and a number for each sample. It may be empty, and the cut of a
+    /// stream into blocks does not matter. Refusals 1, 8, 9, 10 and 13.
     #[inline]
     pub fn equalize(
         &mut self,
         input: &[f32],
         output: &mut [f32],
         marks: &mut [u8],
+        numbers: &mut [u8],
     ) -> Result<(), Error> {
-        self.block(ffi::eq_equalize, input, output, marks)
+        self.block(ffi::eq_equalize, input, output, marks, numbers)
     }
 
     /// The same by the plain path, for comparison.
@@ -376,8 +392,9 @@ impl Equalizer {
         input: &[f32],
         output: &mut [f32],
         marks: &mut [u8],
+        numbers: &mut [u8],
     ) -> Result<(), Error> {
-        self.block(ffi::eq_reference, input, output, marks)
+        self.block(ffi::eq_reference, input, output, marks, numbers)
     }
 
     #[inline]
@@ -387,9 +404,10 @@ impl Equalizer {
         x: &[f32],
         y: &mut [f32],
         m: &mut [u8],
+        n: &mut [u8],
     ) -> Result<(), Error> {
         let (w, h) = (&mut self.weights[..], &mut self.window[..]);
-        // SAFETY: five slices, lent with their lengths; those that are written are `&mut`, so none overlap.
+        // SAFETY: six slices, lent with their lengths; those that are written are `&mut`, so none overlap.
         let reply = unsafe {
             call(
                 self.record,
@@ -403,6 +421,8 @@ impl Equalizer {
                 y.len(),
                 m.as_mut_ptr(),
                 m.len(),
+                n.as_mut_ptr(),
+                n.len(),
             )
         };
         self.take(reply)
@@ -583,14 +603,15 @@ mod tests {
             "the record breaks a rule, or a number of it stands for no constellation or mode",
             "the output's length is not the input's: 3 expected, 4 given",
             "the marks' length is not the input's: 3 expected, 4 given",
+            "the numbers' length is not the input's",
         ];
-        for (number, words) in (1..).zip(words) {
+        for (number, words) in (1..=10).chain([13]).zip(words) {
             let e = replied(number).unwrap_err();
             assert_eq!(e.number(), number);
             assert!(!matches!(e, Error::Unknown(_)));
             assert_eq!(e.to_string(), format!("refused, number {number}: {words}"));
         }
-        for number in [11, u32::MAX] {
+        for number in [11, 12, 14, u32::MAX] {
             let e = replied(number).unwrap_err();
             assert_eq!((e, e.number()), (Error::Unknown(number), number));
             let said = format!("refused, number {number}: unknown number");

@@ -2,7 +2,8 @@
 
 use equalizer::ffi::{self, EqRecord, EqReply, EqSettings};
 use equalizer::{
-    BLANK, Constellation, Equalizer, Error, HEARD, Mode, OFF_SCALE, SILENT, SPILLED, Settings,
+    BLANK, Constellation, Equalizer, Error, HEARD, Mode, NO_NUMBER, OFF_SCALE, SILENT, SPILLED,
+    Settings,
 };
 
 const ALL: [Constellation; 5] = [
@@ -24,11 +25,40 @@ fn samples(n: usize) -> Vec<f32> {
         .collect()
 }
 
-fn run(e: &mut Equalizer, input: &[f32]) -> (Vec<f32>, Vec<u8>) {
-    let mut output = vec![9.0; input.len()];
-    let mut marks = vec![9; input.len() / 2];
-    e.equalize(input, &mut output, &mut marks).unwrap();
-    (output, marks)
+/// What a served call writes.
+#[derive(Debug, PartialEq)]
+struct Block {
+    output: Vec<f32>,
+    marks: Vec<u8>,
+    numbers: Vec<u8>,
+}
+
+impl Block {
+    /// Of what no call writes.
+    fn blank(input: &[f32]) -> Block {
+        Block {
+            output: vec![9.0; input.len()],
+            marks: vec![9; input.len() / 2],
+            numbers: vec![99; input.len() / 2],
+        }
+    }
+}
+
+fn run(e: &mut Equalizer, input: &[f32]) -> Block {
+    let mut b = Block::blank(input);
+    e.equalize(input, &mut b.output, &mut b.marks, &mut b.numbers)
+        .unwrap();
+    for (&mark, &number) in b.marks.iter().zip(&b.numbers) {
+        assert_eq!(mark == HEARD, number != NO_NUMBER);
+    }
+    b
+}
+
+fn run_plain(e: &mut Equalizer, input: &[f32]) -> Block {
+    let mut b = Block::blank(input);
+    e.reference(input, &mut b.output, &mut b.marks, &mut b.numbers)
+        .unwrap();
+    b
 }
 
 /// The call is refused with this, and leaves the equalizer as it was.
@@ -132,8 +162,8 @@ fn new_refuses() {
 #[test]
 fn a_block() {
     let mut e = qpsk();
-    let (output, marks) = run(&mut e, &samples(300));
-    assert!(marks.iter().all(|&m| m == HEARD) && output.iter().all(|y| y.is_finite()));
+    let b = run(&mut e, &samples(300));
+    assert!(b.marks.iter().all(|&m| m == HEARD) && b.output.iter().all(|y| y.is_finite()));
     assert_eq!((e.count(), e.mode()), (300, Mode::Cma));
     run(&mut e, &samples(700));
     assert_eq!((e.count(), e.mode()), (1000, Mode::Decision));
@@ -154,9 +184,7 @@ fn the_plain_path_agrees() {
             let mut b = a.clone();
             let mut input = samples(301);
             input[140] = f32::INFINITY;
-            let (mut output, mut marks) = (vec![0.0; 602], vec![0; 301]);
-            b.reference(&input, &mut output, &mut marks).unwrap();
-            assert_eq!(run(&mut a, &input), (output, marks));
+            assert_eq!(run(&mut a, &input), run_plain(&mut b, &input));
             assert_eq!(a, b);
         }
     }
@@ -168,7 +196,7 @@ fn blanks_and_spills() {
     let mut input = samples(12);
     input[8] = f32::NAN;
     input[15] = f32::NEG_INFINITY;
-    let (output, marks) = run(&mut e, &input);
+    let Block { output, marks, .. } = run(&mut e, &input);
     assert_eq!((marks[4], marks[7]), (BLANK, BLANK));
     assert_eq!(
         (output[8..10].to_vec(), output[14..16].to_vec()),
@@ -180,8 +208,8 @@ fn blanks_and_spills() {
     run(&mut e, &samples(12));
     let (record, _, window) = e.into_parts();
     let mut e = Equalizer::from_parts(record, vec![f32::MAX; 22], window);
-    let (output, marks) = run(&mut e, &samples(1));
-    assert_eq!((output, marks), (vec![0.0; 2], vec![SPILLED]));
+    let b = run(&mut e, &samples(1));
+    assert_eq!((b.output, b.marks), (vec![0.0; 2], vec![SPILLED]));
 }
 
 /// One call of 70 samples: silence, a burst across sample 64, blanks in both. A sample is silent where
@@ -201,7 +229,11 @@ fn silence_and_a_burst() {
             input[2 * i] = f32::NAN;
         }
         input[4] = -0.0;
-        let zero = |i: usize| input[2 * i..2 * i + 2].iter().all(|&x| x == 0.0 || x.is_nan());
+        let zero = |i: usize| {
+            input[2 * i..2 * i + 2]
+                .iter()
+                .all(|&x| x == 0.0 || x.is_nan())
+        };
         let expected: Vec<u8> = (0..70)
             .map(|i| {
                 if input[2 * i].is_nan() {
@@ -213,10 +245,9 @@ fn silence_and_a_burst() {
                 }
             })
             .collect();
-        let (mut output, mut marks) = (vec![9.0; 140], vec![9; 70]);
-        b.reference(&input, &mut output, &mut marks).unwrap();
-        assert_eq!(marks, expected);
-        assert_eq!(run(&mut a, &input), (output, marks));
+        let told = run_plain(&mut b, &input);
+        assert_eq!(told.marks, expected);
+        assert_eq!(run(&mut a, &input), told);
         assert_eq!(a, b);
         assert!([HEARD, BLANK, SILENT].iter().all(|m| expected.contains(m)));
     }
@@ -227,23 +258,111 @@ fn silence_and_a_burst() {
 fn off_scale() {
     let mut e = Equalizer::new(3, Settings::default()).unwrap();
     e.set_frequency(0.125);
-    let (output, marks) = run(&mut e, &[3e38, 3e38, 0.0, 0.0]);
-    assert_eq!(output, [0.0, 0.0, f32::INFINITY, 0.0]);
-    assert_eq!(marks, [HEARD, OFF_SCALE]);
+    let b = run(&mut e, &[3e38, 3e38, 0.0, 0.0]);
+    assert_eq!(b.output, [0.0, 0.0, f32::INFINITY, 0.0]);
+    assert_eq!(b.marks, [HEARD, OFF_SCALE]);
+    assert_eq!(b.numbers, [0, NO_NUMBER]);
+}
+
+/// A call with the Rust's answers, by both paths.
+#[test]
+fn numbers_of_a_call() {
+    let settings = Settings {
+        cma_symbols: 4,
+        ..Settings::default()
+    };
+    let input = [
+        0xbf1f_efdf,
+        0x3f5d_7cc5,
+        0x3f60_3193,
+        0xbf8a_246c,
+        0x7fc0_0000,
+        0x3f5a_52a9,
+        0xbe8b_5e92,
+        0xbf15_edeb,
+        0xbf1e_bf49,
+        0x3f20_96c6,
+    ]
+    .map(f32::from_bits);
+    let symbols = [
+        0,
+        0,
+        0xbf1f_efdf,
+        0x3f5d_7cc5,
+        0,
+        0,
+        0xba83_adc6,
+        0xbafb_84d6,
+        0xbe89_416c,
+        0xbf15_9cdf,
+    ];
+    for run in [run, run_plain] {
+        let b = run(&mut Equalizer::new(3, settings).unwrap(), &input);
+        let bits: Vec<u32> = b.output.iter().map(|y| y.to_bits()).collect();
+        assert_eq!(bits, symbols);
+        assert_eq!(b.marks, [HEARD, HEARD, BLANK, HEARD, HEARD]);
+        assert_eq!(b.numbers, [0, 2, NO_NUMBER, 3, 3]);
+    }
+}
+
+/// The points in the order of their numbers.
+fn points(constellation: Constellation) -> Vec<(f32, f32)> {
+    let a = std::f32::consts::FRAC_1_SQRT_2;
+    let square = |side: usize, energy: f32| {
+        // the level whose Gray code this is
+        let level = move |g: usize| (0..side).find(|i| i ^ (i >> 1) == g).unwrap();
+        let part = move |g: usize| (2.0 * level(g) as f32 - (side - 1) as f32) / energy.sqrt();
+        let all = (0..side * side).map(move |n| (part(n / side), part(n % side)));
+        all.collect()
+    };
+    match constellation {
+        Constellation::Bpsk => vec![(1.0, 0.0), (-1.0, 0.0)],
+        Constellation::Qpsk => vec![(a, a), (a, -a), (-a, a), (-a, -a)],
+        Constellation::Psk8 => (0..8)
+            .map(|n| ((2 * n + 1) as f32 * std::f32::consts::PI / 8.0).sin_cos())
+            .map(|(im, re)| (re, im))
+            .collect(),
+        Constellation::Qam16 => square(4, 10.0),
+        Constellation::Qam64 => square(8, 42.0),
+    }
+}
+
+/// The centre of three taps gives each sample back, one later and hardly changed.
+#[test]
+fn every_point_has_its_number() {
+    for constellation in ALL {
+        let settings = Settings {
+            constellation,
+            mu_cma: 0.00001,
+            phase_bw: 0.0,
+            ..Settings::default()
+        };
+        let mut input: Vec<f32> = points(constellation)
+            .into_iter()
+            .flat_map(|(re, im)| [re, im])
+            .collect();
+        input.extend([0.0, 0.0]);
+        let last = input.len() / 2 - 1;
+        let b = run(&mut Equalizer::new(3, settings).unwrap(), &input);
+        let expected: Vec<u8> = (0..last as u8).collect();
+        assert_eq!(b.numbers[1..], expected);
+    }
 }
 
 #[test]
 fn any_cut_gives_the_same() {
     let input = samples(200);
     let mut whole = qpsk();
-    let (output, _) = run(&mut whole, &input);
+    let told = run(&mut whole, &input);
     let mut cut = qpsk();
-    let pieces = [0..0, 0..2, 2..130, 130..400];
-    let joined: Vec<f32> = pieces
-        .into_iter()
-        .flat_map(|r| run(&mut cut, &input[r]).0)
-        .collect();
-    assert_eq!((joined, cut), (output, whole));
+    let mut joined = Block::blank(&[]);
+    for piece in [0..0, 0..2, 2..130, 130..400] {
+        let b = run(&mut cut, &input[piece]);
+        joined.output.extend(b.output);
+        joined.marks.extend(b.marks);
+        joined.numbers.extend(b.numbers);
+    }
+    assert_eq!((joined, cut), (told, whole));
 }
 
 /// The symbol of sample i is that of the sample (taps - 1) / 2 earlier; its mark is its own.
@@ -254,7 +373,7 @@ fn the_delay() {
         let mut input = vec![0.0; 200];
         input[0] = 0.5;
         input[199] = f32::NAN;
-        let (output, marks) = run(&mut e, &input);
+        let Block { output, marks, .. } = run(&mut e, &input);
         let first = output.iter().position(|&y| y != 0.0);
         assert_eq!(first, Some(2 * ((taps - 1) / 2)));
         assert_eq!(marks.iter().position(|&m| m == BLANK), Some(99));
@@ -281,19 +400,21 @@ fn threads() {
 #[test]
 fn equalize_refuses() {
     let x = samples(4);
-    let (mut y, mut m) = (vec![5.0; 9], vec![5; 9]);
+    let (mut y, mut m, mut n) = (vec![5.0; 9], vec![5; 9], vec![5; 9]);
     let e = &mut qpsk();
     refused(e, Error::Odd, |e| {
-        e.equalize(&x[..7], &mut y[..8], &mut m[..4])
+        e.equalize(&x[..7], &mut y[..8], &mut m[..4], &mut n[..4])
     });
-    refused(e, Error::Odd, |e| e.equalize(&x, &mut y[..9], &mut m[..4]));
+    refused(e, Error::Odd, |e| {
+        e.equalize(&x, &mut y[..9], &mut m[..4], &mut n[..4])
+    });
     refused(
         e,
         Error::Output {
             expected: 4,
             got: 3,
         },
-        |e| e.equalize(&x, &mut y[..6], &mut m[..4]),
+        |e| e.equalize(&x, &mut y[..6], &mut m[..4], &mut n[..4]),
     );
     refused(
         e,
@@ -301,15 +422,56 @@ fn equalize_refuses() {
             expected: 4,
             got: 9,
         },
-        |e| e.equalize(&x, &mut y[..8], &mut m),
+        |e| e.equalize(&x, &mut y[..8], &mut m, &mut n[..4]),
     );
     // 8 comes before 9 and 10, and after 1
     let (mut record, weights, window) = e.clone().into_parts();
     record.count = 1001;
     let e = &mut Equalizer::from_parts(record, weights, window);
-    refused(e, Error::Record, |e| e.equalize(&x, &mut y[..6], &mut m));
-    refused(e, Error::Odd, |e| e.equalize(&x, &mut y[..7], &mut m));
-    assert_eq!((y, m), (vec![5.0; 9], vec![5; 9]));
+    refused(e, Error::Record, |e| {
+        e.equalize(&x, &mut y[..6], &mut m, &mut n[..4])
+    });
+    refused(e, Error::Odd, |e| {
+        e.equalize(&x, &mut y[..7], &mut m, &mut n[..4])
+    });
+    assert_eq!((y, m, n), (vec![5.0; 9], vec![5; 9], vec![5; 9]));
+}
+
+/// 13 comes without lengths, after 1, 8, 9 and 10.
+#[test]
+fn numbers_of_another_length() {
+    let x = samples(2);
+    let (mut y, mut m, mut n) = (vec![5.0; 5], vec![5; 4], vec![5; 4]);
+    let e = &mut qpsk();
+    for calls in [Equalizer::equalize, Equalizer::reference] {
+        for count in [3, 1, 0, 4] {
+            refused(e, Error::Numbers, |e| {
+                calls(e, &x, &mut y[..4], &mut m[..2], &mut n[..count])
+            });
+        }
+        refused(e, Error::Numbers, |e| {
+            calls(e, &[], &mut [], &mut [], &mut n[..1])
+        });
+        calls(e, &[], &mut [], &mut [], &mut []).unwrap();
+        assert_eq!(*e, qpsk());
+        let (expected, got) = (2, 1);
+        refused(e, Error::Marks { expected, got }, |e| {
+            calls(e, &x, &mut y[..4], &mut m[..1], &mut n[..3])
+        });
+        refused(e, Error::Output { expected, got }, |e| {
+            calls(e, &x, &mut y[..2], &mut m[..2], &mut n[..3])
+        });
+        refused(e, Error::Odd, |e| {
+            calls(e, &x, &mut y[..5], &mut m[..2], &mut n[..3])
+        });
+        let (mut record, weights, window) = e.clone().into_parts();
+        record.count = 1001;
+        let e = &mut Equalizer::from_parts(record, weights, window);
+        refused(e, Error::Record, |e| {
+            calls(e, &x, &mut y[..4], &mut m[..2], &mut n[..3])
+        });
+    }
+    assert_eq!((y, m, n), (vec![5.0; 5], vec![5; 4], vec![5; 4]));
 }
 
 #[test]
@@ -367,14 +529,12 @@ fn setters() {
         e.set_frequency(given);
         assert_eq!(e.frequency().to_bits(), f32::to_bits(held));
     }
-    let (output, _) = run(e, &samples(1));
-    assert_eq!(output, [0.0, 0.0]);
+    assert_eq!(run(e, &samples(1)).output, [0.0, 0.0]);
 }
 
-/// Numbers that stand for no constellation or mode, by the exported calls themselves.
-#[test]
-fn unknown_numbers() {
-    let known = unsafe {
+/// The reply of a new equalizer.
+fn known() -> EqReply {
+    unsafe {
         ffi::eq_new(
             raw_settings(1),
             [0.0; 6].as_mut_ptr(),
@@ -382,7 +542,13 @@ fn unknown_numbers() {
             [0.0; 6].as_mut_ptr(),
             6,
         )
-    };
+    }
+}
+
+/// Numbers that stand for no constellation or mode, by the exported calls themselves.
+#[test]
+fn unknown_numbers() {
+    let known = known();
     assert_eq!((known.number, known.record.settings), (0, raw_settings(1)));
     for bad in [5, u32::MAX] {
         let reply = |n, m| unsafe {
@@ -441,14 +607,27 @@ fn unknown_record(r: EqRecord) {
     let (mut w, mut h) = ([3.0f32; 7], [3.0f32; 7]);
     let mut reset = |n, m| unsafe { ffi::eq_reset(r, w.as_mut_ptr(), n, h.as_mut_ptr(), m) };
     assert_eq!((reset(6, 6), reset(7, 6), reset(6, 7)), (eight, one, one));
-    let (x, mut y, mut marks) = ([3.0f32; 7], [3.0f32; 7], [3u8; 7]);
-    let mut block = |n: [usize; 5]| unsafe {
-        let (a, b) = (w.as_mut_ptr(), h.as_mut_ptr());
-        ffi::eq_reference(
+    assert_eq!((w, h), ([3.0; 7], [3.0; 7]));
+    let block = |n| refused_block(ffi::eq_reference, r, n);
+    assert_eq!(block([6, 6, 6, 6, 3, 3]), eight);
+    assert_eq!(block([6, 6, 6, 4, 7, 4]), eight);
+    for odd in 0..4 {
+        let mut n = [6, 6, 6, 6, 3, 4];
+        n[odd] = 7;
+        assert_eq!(block(n), one);
+    }
+}
+
+/// What a call replies over slices of these counts, all of which it must leave.
+fn refused_block(call: ffi::Block, r: EqRecord, n: [usize; 6]) -> EqReply {
+    let (mut w, mut h, x, mut y) = ([3.0f32; 7], [3.0f32; 7], [3.0f32; 7], [3.0f32; 7]);
+    let (mut marks, mut numbers) = ([3u8; 7], [3u8; 7]);
+    let reply = unsafe {
+        call(
             r,
-            a,
+            w.as_mut_ptr(),
             n[0],
-            b,
+            h.as_mut_ptr(),
             n[1],
             x.as_ptr(),
             n[2],
@@ -456,14 +635,27 @@ fn unknown_record(r: EqRecord) {
             n[3],
             marks.as_mut_ptr(),
             n[4],
+            numbers.as_mut_ptr(),
+            n[5],
         )
     };
-    assert_eq!(block([6, 6, 6, 6, 3]), eight);
-    assert_eq!(block([6, 6, 6, 4, 7]), eight);
-    for odd in 0..4 {
-        let mut n = [6, 6, 6, 6, 3];
-        n[odd] = 7;
-        assert_eq!(block(n), one);
+    assert_eq!((w, h, y), ([3.0; 7], [3.0; 7], [3.0; 7]));
+    assert_eq!((marks, numbers), ([3; 7], [3; 7]));
+    reply
+}
+
+/// 9 and 10 reply two lengths, 13 none.
+#[test]
+fn lengths_of_a_reply() {
+    let known = known();
+    for call in [ffi::eq_equalize as ffi::Block, ffi::eq_reference] {
+        let block = |n| refused_block(call, known.record, n);
+        assert_eq!(numbers(block([6, 6, 6, 4, 3, 3])), (9, 3, 2));
+        assert_eq!(numbers(block([6, 6, 6, 6, 4, 3])), (10, 3, 4));
+        let thirteen = EqReply {
+            number: 13,
+            ..known
+        };
+        assert_eq!(block([6, 6, 6, 6, 3, 4]), thirteen);
     }
-    assert_eq!((w, h, y, marks), ([3.0; 7], [3.0; 7], [3.0; 7], [3; 7]));
 }

@@ -39,6 +39,7 @@ int main(void)
     NUMBER(EQ_SPILLED);
     NUMBER(EQ_SILENT);
     NUMBER(EQ_OFF_SCALE);
+    NUMBER(EQ_NO_NUMBER);
     NUMBER(EQ_BPSK);
     NUMBER(EQ_QPSK);
     NUMBER(EQ_PSK8);
@@ -57,11 +58,12 @@ int main(void)
     NUMBER(EQ_RECORD);
     NUMBER(EQ_OUTPUT);
     NUMBER(EQ_MARKS);
+    NUMBER(EQ_NUMBERS);
 
     /* digits enough for the same float again */
     printf("default %.17g %zu %u %.9g %.9g %u\n", s.phase_bw, s.feedback_taps, (unsigned)s.constellation, s.mu_cma, s.mu_dd, (unsigned)s.cma_symbols);
     printf("version %s %d.%d.%d\n", EQ_VERSION, EQ_VERSION_MAJOR, EQ_VERSION_MINOR, EQ_VERSION_PATCH);
-    for (unsigned n = 0; n <= 11; n++)
+    for (unsigned n = 0; n <= 14; n++)
         printf("words.%u %s\n", n, eq_strerror(n));
     printf("words.4294967295 %s\n", eq_strerror(4294967295u));
     return 0;

@@ -3,7 +3,7 @@
 
 use equalizer::ffi::{EqRecord, EqReply, EqSettings};
 use equalizer::{
-    BLANK, Constellation, Error, HEARD, Mode, OFF_SCALE, SILENT, SPILLED, Settings,
+    BLANK, Constellation, Error, HEARD, Mode, NO_NUMBER, OFF_SCALE, SILENT, SPILLED, Settings,
 };
 use std::any::type_name_of_val;
 use std::collections::HashMap;
@@ -83,6 +83,7 @@ fn numbers() {
         ("EQ_SPILLED", SPILLED.into()),
         ("EQ_SILENT", SILENT.into()),
         ("EQ_OFF_SCALE", OFF_SCALE.into()),
+        ("EQ_NO_NUMBER", NO_NUMBER.into()),
         ("EQ_BPSK", Constellation::Bpsk as u32),
         ("EQ_QPSK", Constellation::Qpsk as u32),
         ("EQ_PSK8", Constellation::Psk8 as u32),
@@ -101,6 +102,7 @@ fn numbers() {
         ("EQ_RECORD", Error::Record.number()),
         ("EQ_OUTPUT", Error::Output { expected, got }.number()),
         ("EQ_MARKS", Error::Marks { expected, got }.number()),
+        ("EQ_NUMBERS", Error::Numbers.number()),
     ];
     for (name, number) in numbers {
         assert_eq!(facts[name], number.to_string(), "{name}");
@@ -122,7 +124,10 @@ fn words() {
         Error::Record,
         Error::Output { expected, got },
         Error::Marks { expected, got },
+        Error::Numbers,
         Error::Unknown(11),
+        Error::Unknown(12),
+        Error::Unknown(14),
         Error::Unknown(u32::MAX),
     ];
     assert_eq!(facts["words.0"], "served");
