@@ -11,6 +11,7 @@ use crate::kernels::equalize::{
     EqConstellation, EqMode, EqParams, Equalize, EqualizeState, equalize_with,
 };
 use crate::line::bits;
+use crate::numbers::number;
 use crate::types::C32;
 use crate::{Fallback, Reference};
 
@@ -131,14 +132,19 @@ fn measure(row: Row, budget: Duration) -> ([Duration; WAYS], bool) {
         && agree(&call, &quick)
         && agree(&plain, &reference)
         && marked(&plain)
-        && marked(&call);
+        && marked(&call)
+        && numbered(&plain, &reference)
+        && numbered(&call, &quick);
     (least, same)
 }
+
+type Served = Result<(), equalizer::Error>;
 
 struct Rattle {
     equalizer: Equalizer,
     output: Vec<f32>,
     marks: Vec<u8>,
+    numbers: Vec<u8>,
 }
 
 impl Rattle {
@@ -162,6 +168,7 @@ impl Rattle {
             equalizer: Equalizer::new(row.forward, settings).expect("the settings are in range"),
             output: vec![0.0; 2 * STREAM],
             marks: vec![9; STREAM],
+            numbers: vec![99; STREAM],
         }
     }
 
@@ -170,18 +177,22 @@ impl Rattle {
         &mut self,
         input: &[f32],
         block: usize,
-        call: impl Fn(&mut Equalizer, &[f32], &mut [f32], &mut [u8]) -> Result<(), equalizer::Error>,
+        call: impl Fn(&mut Equalizer, &[f32], &mut [f32], &mut [u8], &mut [u8]) -> Served,
     ) -> Duration {
         self.equalizer.reset().expect("the record is accepted");
         let began = Instant::now();
         let blocks = black_box(input)
             .chunks(2 * block)
             .zip(self.output.chunks_mut(2 * block));
-        for ((x, y), m) in blocks.zip(self.marks.chunks_mut(block)) {
-            call(&mut self.equalizer, x, y, m).expect("the lengths agree");
+        let bytes = self
+            .marks
+            .chunks_mut(block)
+            .zip(self.numbers.chunks_mut(block));
+        for ((x, y), (m, n)) in blocks.zip(bytes) {
+            call(&mut self.equalizer, x, y, m, n).expect("the lengths agree");
         }
         let took = began.elapsed();
-        black_box((&self.output, &self.marks));
+        black_box((&self.output, &self.marks, &self.numbers));
         took
     }
 }
@@ -241,6 +252,13 @@ fn agree(a: &Rattle, b: &Original) -> bool {
 fn same(a: &[f32], b: &[C32]) -> bool {
     let b = b.iter().flat_map(|y| [y.re, y.im]);
     a.len() == b.clone().count() && a.iter().zip(b).all(|(&x, y)| bits(x) == bits(y))
+}
+
+/// Whether the numbers are those of the Rust's symbols.
+fn numbered(a: &Rattle, b: &Original) -> bool {
+    let k = b.state.constellation();
+    let mut pairs = a.numbers.iter().zip(&b.output);
+    pairs.all(|(&n, &z)| n == number(k, z))
 }
 
 /// Points at random, through three echoes and a slow turn, with noise.
