@@ -6,6 +6,7 @@ use Rattle.definition.specs.Examples.{examples_pass}
 use Rattle.definition.specs.Refused.{refusals_pass}
 use Rattle.definition.specs.Samples.{samples_pass}
 use Rattle.definition.specs.Marks.{marks_pass}
+use Rattle.definition.specs.Numbers.{numbers_pass}
 use Rattle.definition.specs.Constants.{constants_pass}
 use Rattle.definition.specs.Edges.{edges_pass}
 use Rattle.definition.proofs.Computed.{computed}
@@ -29,6 +30,11 @@ samples_pass_lem = refl
 pub marks_pass_lem : marks_pass ≡ true
 unfolding computed all bits_of settings_of settings state_of holds marks_pass
 marks_pass_lem = refl
+
+-- the numbers of the points
+pub numbers_pass_lem : numbers_pass ≡ true
+unfolding computed all bits_of settings_of settings state_of holds numbers_pass
+numbers_pass_lem = refl
 
 -- the constants against their decimals and roots
 pub constants_pass_lem : constants_pass ≡ true

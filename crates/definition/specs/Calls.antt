@@ -1,11 +1,11 @@
--- THE PUBLIC OPERATIONS, whole: reply, record, weights, window, output, marks. A refusal leaves all as it was.
+-- THE PUBLIC OPERATIONS, whole: reply, record, weights, window, output, marks, numbers. A refusal leaves all as it was.
 -- Each answer holds the outcome, as the code's `Result`, and the reply: document 01's number and lengths for it.
 -- Lists left as they were are equal as data: a NaN in them is a NaN again, and its payload is not spoken of (Floats).
 use Rattle.std.specs.Prelude.{ℕ, ◌-◌, ◌*◌, ◌/◌, Bool, cond, ◌&&◌, List, [], ◌∷◌, ◌++◌, length, eqb, Float, Ok, Err}
 use Rattle.std.specs.Float.Ieee.{is_nan}
 use Rattle.types.specs.declared.EqParams.{EqParams}
 use Rattle.types.specs.declared.EqualizeState.{EqualizeState}
-use Rattle.types.specs.declared.Error.TheVariants.{Odd, Feedback, Taps, Window, MuCma, MuDd, Bandwidth, Record, Output, Marks}
+use Rattle.types.specs.declared.Error.TheVariants.{Odd, Feedback, Taps, Window, MuCma, MuDd, Bandwidth, Record, Output, Marks, Numbers}
 use Rattle.types.specs.Start.{start_state}
 use Rattle.definition.specs.Refusals.{Outcome, Fresh, reply_of, Test, test, first_of}
 use Rattle.types.specs.Bits.{zero32}
@@ -15,7 +15,7 @@ use Rattle.definition.specs.Slices.{samples_of, zeros, start_weights}
 use Rattle.definition.specs.Gains.{phase_damping, gain_kp, gain_ki}
 use Rattle.definition.specs.Sample.{Equalizer, all_taps, with_running}
 use Rattle.definition.specs.Rules.{taps_fit, feedback_fits, mu_fits, bw_fits, rule_r1, rule_r2, rules}
-use Rattle.definition.specs.Run.{Run, run_def, written, symbol_parts, mark_byte}
+use Rattle.definition.specs.Run.{Run, run_def, written, symbol_parts, mark_byte, number_byte}
 
 -- ---- the start: what `new` and `reset` set; `start_state` (types) is the record then: count 0, `mse` 1, phase 0, freq 0
 
@@ -149,13 +149,14 @@ set_frequency_def s v = with_running s s.mode s.count s.mse s.phase (held_freq v
 
 -- ---- equalizing
 
--- the lengths of what a call is handed, as counts of f32, and of bytes for the marks
+-- the lengths of what a call is handed, as counts of f32, and of bytes for marks and numbers
 pub record Lengths : Type 0 where
   pub weights : ℕ
   pub window : ℕ
   pub input : ℕ
   pub output : ℕ
   pub marks : ℕ
+  pub numbers : ℕ
 
 -- test 1 of all four slices
 abbrev pub slice_tests : Lengths → List Test
@@ -163,23 +164,30 @@ slice_tests l =
     test (even l.weights && even l.window && even l.input && even l.output) Odd
     ∷ []
 
--- tests 9 and 10: output and marks hold as many samples as the input
+-- Tests 9, 10 and 13: output, marks and numbers hold as many samples as the input. "Where that slice is not the input's length the call gives 13, tried after 10."
 abbrev pub length_tests : Lengths → List Test
 length_tests l =
     test (eqb (l.output / 2) (l.input / 2)) (Output (l.input / 2) (l.output / 2))
     ∷ test (eqb l.marks (l.input / 2)) (Marks (l.input / 2) l.marks)
+    ∷ test (eqb l.numbers (l.input / 2)) Numbers
     ∷ []
 
--- Equalizing tests 1, 8, 9, 10.
+-- Equalizing tests 1, 8, 9, 10, 13.
 unfoldable pub equalize_tests : Bool → Lengths → List Test
 equalize_tests rulesMet l = slice_tests l ++ record_tests rulesMet ++ length_tests l
 
 unfoldable pub verdict_def : Bool → Lengths → Outcome
 verdict_def rulesMet l = first_of (equalize_tests rulesMet l)
 
-abbrev pub lengths_of : Equalizer → List Float → List Float → List ℕ → Lengths
-lengths_of q xs ys ms =
-    record { weights = length q.weights; window = length q.window; input = length xs; output = length ys; marks = length ms }
+abbrev pub lengths_of : Equalizer → List Float → List Float → List ℕ → List ℕ → Lengths
+lengths_of q xs ys ms ns = record {
+  weights = length q.weights;
+  window = length q.window;
+  input = length xs;
+  output = length ys;
+  marks = length ms;
+  numbers = length ns;
+}
 
 -- what a call answers, and the later content of all that it was handed
 pub record Answer : Type 0 where
@@ -188,17 +196,18 @@ pub record Answer : Type 0 where
   pub equalizer : Equalizer
   pub out : List Float
   pub marks : List ℕ
+  pub numbers : List ℕ
 
-abbrev pub answer : Outcome → Equalizer → List Float → List ℕ → Answer
-answer o q ys ms = record { outcome = o; reply = reply_of o; equalizer = q; out = ys; marks = ms }
+abbrev pub answer : Outcome → Equalizer → List Float → List ℕ → List ℕ → Answer
+answer o q ys ms ns = record { outcome = o; reply = reply_of o; equalizer = q; out = ys; marks = ms; numbers = ns }
 
 abbrev pub served_by : Run → Answer
-served_by r = answer (Ok tt) r.equalizer (written symbol_parts r.outs) (written mark_byte r.outs)
+served_by r = answer (Ok tt) r.equalizer (written symbol_parts r.outs) (written mark_byte r.outs) (written number_byte r.outs)
 
-abbrev pub answer_by : Outcome → Equalizer → List Float → List Float → List ℕ → Answer
-answer_by (Ok tt) q xs ys ms = served_by (run_def q (samples_of xs))
-answer_by (Err e) q xs ys ms = answer (Err e) q ys ms
+abbrev pub answer_by : Outcome → Equalizer → List Float → List Float → List ℕ → List ℕ → Answer
+answer_by (Ok tt) q xs ys ms ns = served_by (run_def q (samples_of xs))
+answer_by (Err e) q xs ys ms ns = answer (Err e) q ys ms ns
 
--- xs is the input; ys and ms are what output and marks hold before the call
-unfoldable pub equalize_def : Equalizer → List Float → List Float → List ℕ → Answer
-equalize_def q xs ys ms = answer_by (verdict_def (rules q) (lengths_of q xs ys ms)) q xs ys ms
+-- xs is the input; ys, ms and ns are what output, marks and numbers hold before the call
+unfoldable pub equalize_def : Equalizer → List Float → List Float → List ℕ → List ℕ → Answer
+equalize_def q xs ys ms ns = answer_by (verdict_def (rules q) (lengths_of q xs ys ms ns)) q xs ys ms ns

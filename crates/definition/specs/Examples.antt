@@ -30,29 +30,29 @@ pub data Row : Type 0 where
   nearest : Float → ℕ → ℕ → Row
   -- what `new` replies with so many feedback and forward taps: [] is taken
   taps_reply : ℕ → ℕ → List ℕ → Row
-  -- `new`, 3 taps, 1000 Cma symbols, one sample: one symbol (0, 0), this mark
-  one_sample : C32 → ℕ → Row
-  -- `new`, 3 taps, `cma_symbols` 2, two blanks: (0, 0) and mark 1 each; Decision, count 2, `mse` 1, phase 0
+  -- `new`, 3 taps, 1000 Cma symbols, one sample: one symbol (0, 0), this mark and number
+  one_sample : C32 → ℕ → ℕ → Row
+  -- `new`, 3 taps, `cma_symbols` 2, two blanks: (0, 0), mark 1 and number 255 each; Decision, count 2, `mse` 1, phase 0
   two_blanks : C32 → C32 → Row
 
 -- a call after `new` with 3 taps; where `new` refuses, nothing
-unfoldable on_made : Fresh → NewAnswer → List Float → List ℕ → List Answer
-on_made (Ok s) a xs ms = equalize_def (record { state = s; weights = a.weights; window = a.window }) xs xs ms ∷ []
-on_made (Err e) a xs ms = []
+unfoldable on_made : Fresh → NewAnswer → List Float → List ℕ → List ℕ → List Answer
+on_made (Ok s) a xs ms ns = equalize_def (record { state = s; weights = a.weights; window = a.window }) xs xs ms ns ∷ []
+on_made (Err e) a xs ms ns = []
 
-unfoldable pub after_new : ℕ → List Float → List ℕ → List Answer
+unfoldable pub after_new : ℕ → List Float → List ℕ → List ℕ → List Answer
 unfolding on_made
-after_new cma xs ms = let a = new_def (settings 0 cma) (zeros 6) (zeros 6) in on_made a.answer a xs ms
+after_new cma xs ms ns = let a = new_def (settings 0 cma) (zeros 6) (zeros 6) in on_made a.answer a xs ms ns
 
--- the call is served, with these symbols and marks
-unfoldable pub answers : List ℕ → List ℕ → List Answer → Bool
-answers symbols marks [] = false
-answers symbols marks (a ∷ l) = same a.reply [] && same (bits_of a.out) symbols && same a.marks marks
+-- the call is served, with these symbols, marks and numbers
+unfoldable pub answers : List ℕ → List ℕ → List ℕ → List Answer → Bool
+answers symbols marks numbers [] = false
+answers symbols marks numbers (a ∷ l) = same a.reply [] && same (bits_of a.out) symbols && same a.marks marks && same a.numbers numbers
 
 unfoldable blank_twice : List Answer → Bool
 blank_twice [] = false
 blank_twice (a ∷ l) =
-    same a.reply [] && same (bits_of a.out) (0 ∷ 0 ∷ 0 ∷ 0 ∷ []) && same a.marks (1 ∷ 1 ∷ []) && eqb (mode_number a.equalizer.state.mode) 1
+    same a.reply [] && same (bits_of a.out) (0 ∷ 0 ∷ 0 ∷ 0 ∷ []) && same a.marks (1 ∷ 1 ∷ []) && same a.numbers (255 ∷ 255 ∷ []) && eqb (mode_number a.equalizer.state.mode) 1
     && eqb a.equalizer.state.count 2 && same_bits a.equalizer.state.mse one32 && eqb a.equalizer.state.phase 0
 
 unfoldable passes : Row → Bool
@@ -62,8 +62,8 @@ passes (decides k z d) = same_bits (decide k z).re d.re && same_bits (decide k z
 passes (level_is v n bits) = eqb (level_of qam.Qam16 (f32 v)) n && same_bits (decide Qam16 (complex (f32 v) zero32)).re (f32 bits)
 passes (nearest x a b) = same_bits x (round binary32 false a b)
 passes (taps_reply fb n reply) = same (new_def (settings fb 1000) (zeros (2 * (n + fb))) (zeros (2 * (n + fb)))).reply reply
-passes (one_sample x mark) = answers (0 ∷ 0 ∷ []) (mark ∷ []) (after_new 1000 (x.re ∷ x.im ∷ []) (7 ∷ []))
-passes (two_blanks x y) = blank_twice (after_new 2 (x.re ∷ x.im ∷ y.re ∷ y.im ∷ []) (7 ∷ 7 ∷ []))
+passes (one_sample x mark number) = answers (0 ∷ 0 ∷ []) (mark ∷ []) (number ∷ []) (after_new 1000 (x.re ∷ x.im ∷ []) (7 ∷ []) (8 ∷ []))
+passes (two_blanks x y) = blank_twice (after_new 2 (x.re ∷ x.im ∷ y.re ∷ y.im ∷ []) (7 ∷ 7 ∷ []) (8 ∷ 8 ∷ []))
 
 unfoldable all_pass : List Row → Bool
 all_pass [] = true
@@ -104,8 +104,8 @@ examples =
     ∷ taps_reply 63 3 []
     ∷ taps_reply 64 3 (2 ∷ [])
     -- `new`, 3 taps, sample (1, 0): heard; sample (0, 0), whose forward power is 0: silent
-    ∷ one_sample (complex one32 zero32) 0
-    ∷ one_sample (complex zero32 zero32) 3
+    ∷ one_sample (complex one32 zero32) 0 0
+    ∷ one_sample (complex zero32 zero32) 3 255
     -- `new`, `cma_symbols` 2, two NaN samples
     ∷ two_blanks (complex nan nan) (complex nan nan)
     ∷ two_blanks (complex nan zero32) (complex one32 nan)

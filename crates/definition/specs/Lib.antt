@@ -24,6 +24,7 @@ pub mod Rows
 pub mod Examples
 pub mod Samples
 pub mod Marks
+pub mod Numbers
 pub mod Refused
 pub mod Constants
 pub mod Edges

@@ -1,5 +1,5 @@
--- The marks, as one table: calls of a few samples, the symbols and marks that they give, by the bits. Then the order of the marks by itself.
--- The symbols are the Rust's (oracle/README.md), the marks the customer's words.
+-- The marks, as one table: calls of a few samples, the symbols, marks and numbers that they give, by the bits. Then the order of the marks by itself.
+-- The symbols are the Rust's (oracle/README.md), the marks and numbers the customer's words.
 use Rattle.std.specs.Prelude.{ℕ, Bool, true, false, ◌&&◌, List, [], ◌∷◌, ◌++◌, map, length, replicate, eqb}
 use Rattle.std.specs.Float.{nan, inf}
 use Rattle.types.specs.declared.EqMode.TheVariants.{Cma, Decision}
@@ -18,8 +18,8 @@ use Rattle.definition.specs.Examples.{after_new, answers}
 
 -- ---- calls after `new` with 3 taps, QPSK, `cma_symbols` 1000
 
-unfoldable new_gives : List ℕ → List ℕ → List ℕ → Bool
-new_gives xs symbols marks = answers symbols marks (after_new 1000 (map f32 xs) (replicate (length marks) 7))
+unfoldable new_gives : List ℕ → List ℕ → List ℕ → List ℕ → Bool
+new_gives xs symbols marks numbers = answers symbols marks numbers (after_new 1000 (map f32 xs) (replicate (length marks) 7) (replicate (length numbers) 8))
 
 -- they count, and `mse`, which the error of a silent symbol moves, is 1
 unfoldable counted : ℕ → List Answer → Bool
@@ -29,22 +29,23 @@ counted n (a ∷ l) = eqb a.equalizer.state.count n && same_bits a.equalizer.sta
 unfoldable new_rows : List Bool
 new_rows =
     -- zeros of either sign are silent
-    new_gives (0 ∷ 0 ∷ 0x8000_0000 ∷ 0x8000_0000 ∷ 0 ∷ 0x8000_0000 ∷ []) (replicate 6 0) (3 ∷ 3 ∷ 3 ∷ [])
-    ∷ counted 3 (after_new 1000 (map f32 (0 ∷ 0 ∷ 0x8000_0000 ∷ 0x8000_0000 ∷ 0 ∷ 0x8000_0000 ∷ [])) (7 ∷ 7 ∷ 7 ∷ []))
+    new_gives (0 ∷ 0 ∷ 0x8000_0000 ∷ 0x8000_0000 ∷ 0 ∷ 0x8000_0000 ∷ []) (replicate 6 0) (3 ∷ 3 ∷ 3 ∷ []) (replicate 3 255)
+    ∷ counted 3 (after_new 1000 (map f32 (0 ∷ 0 ∷ 0x8000_0000 ∷ 0x8000_0000 ∷ 0 ∷ 0x8000_0000 ∷ [])) (7 ∷ 7 ∷ 7 ∷ []) (8 ∷ 8 ∷ 8 ∷ []))
     -- a zero behind a burst is heard for as long as the burst is in the window; the first symbol of a burst is 0 and heard
-    ∷ new_gives (0x3f80_0000 ∷ replicate 9 0 ++ 0x3f00_0000 ∷ 0x3f00_0000 ∷ 0 ∷ 0 ∷ []) (0 ∷ 0 ∷ 0x3f80_0000 ∷ replicate 9 0 ++ 0x3ef5_20b2 ∷ 0x3f05_36e7 ∷ []) (0 ∷ 0 ∷ 0 ∷ 3 ∷ 3 ∷ 0 ∷ 0 ∷ [])
+    ∷ new_gives (0x3f80_0000 ∷ replicate 9 0 ++ 0x3f00_0000 ∷ 0x3f00_0000 ∷ 0 ∷ 0 ∷ []) (0 ∷ 0 ∷ 0x3f80_0000 ∷ replicate 9 0 ++ 0x3ef5_20b2 ∷ 0x3f05_36e7 ∷ []) (0 ∷ 0 ∷ 0 ∷ 3 ∷ 3 ∷ 0 ∷ 0 ∷ []) (0 ∷ 0 ∷ 0 ∷ 255 ∷ 255 ∷ 0 ∷ 0 ∷ [])
     -- a blank is one where its window is silent too
-    ∷ new_gives (0x7fc0_0000 ∷ 0 ∷ 0 ∷ 0x7f80_0000 ∷ 0 ∷ 0 ∷ []) (replicate 6 0) (1 ∷ 1 ∷ 3 ∷ [])
+    ∷ new_gives (0x7fc0_0000 ∷ 0 ∷ 0 ∷ 0x7f80_0000 ∷ 0 ∷ 0 ∷ []) (replicate 6 0) (1 ∷ 1 ∷ 3 ∷ []) (replicate 3 255)
     ∷ []
 
 -- ---- calls with bandwidth 0 and, but for the first two, in Decision from the start
 
 -- constellation, feedback taps, phase
-unfoldable fixed : EqConstellation → ℕ → ℕ → EqualizeState
+unfoldable pub fixed : EqConstellation → ℕ → ℕ → EqualizeState
 fixed k m phase = state_of (settings_of k m 0x3d4c_cccd 0x3ca3_d70a 0 0) 0 0 Decision 0 0x3f80_0000 phase 0
 
-unfoldable gives : Equalizer → List ℕ → List ℕ → List ℕ → Bool
-gives q xs symbols marks = answers symbols marks (equalize_def q (map f32 xs) (zeros (length xs)) (replicate (length marks) 7) ∷ [])
+unfoldable pub gives : Equalizer → List ℕ → List ℕ → List ℕ → List ℕ → Bool
+gives q xs symbols marks numbers =
+    answers symbols marks numbers (equalize_def q (map f32 xs) (zeros (length xs)) (replicate (length marks) 7) (replicate (length numbers) 8) ∷ [])
 
 -- the same of Cma, 3 taps of 2^100 + 2^100·i each: a sample of 2^-75 has a square of 0, and a symbol; the f32 above it has a square
 unfoldable loud : Equalizer
@@ -67,18 +68,18 @@ turned phase w = holds (fixed Qam64 0 phase) (w ∷ replicate 5 0) (replicate 6 
 
 unfoldable fixed_rows : List Bool
 fixed_rows =
-    gives loud (0x1a00_0000 ∷ 0 ∷ []) (0x4c00_0000 ∷ 0x4c00_0000 ∷ []) (3 ∷ [])
-    ∷ gives loud (0x1a00_0001 ∷ 0 ∷ []) (0x4c00_0001 ∷ 0x4c00_0001 ∷ []) (0 ∷ [])
-    ∷ gives spoken (replicate 6 0 ++ 0x3f80_0000 ∷ 0 ∷ []) (0x3e33_3332 ∷ 0xbf06_6666 ∷ 0xbeb3_3333 ∷ 0x3eb3_3333 ∷ replicate 4 0) (3 ∷ 3 ∷ 3 ∷ 0 ∷ [])
+    gives loud (0x1a00_0000 ∷ 0 ∷ []) (0x4c00_0000 ∷ 0x4c00_0000 ∷ []) (3 ∷ []) (255 ∷ [])
+    ∷ gives loud (0x1a00_0001 ∷ 0 ∷ []) (0x4c00_0001 ∷ 0x4c00_0001 ∷ []) (0 ∷ []) (0 ∷ [])
+    ∷ gives spoken (replicate 6 0 ++ 0x3f80_0000 ∷ 0 ∷ []) (0x3e33_3332 ∷ 0xbf06_6666 ∷ 0xbeb3_3333 ∷ 0x3eb3_3333 ∷ replicate 4 0) (3 ∷ 3 ∷ 3 ∷ 0 ∷ []) (255 ∷ 255 ∷ 255 ∷ 0 ∷ [])
     -- F is 0 and z infinite: silent; F is 0 and y infinite: spilled
-    ∷ gives (vast 0x7f7f_ffff 0 0x3f66_6666) (replicate 4 0) (0x7f80_0000 ∷ replicate 3 0) (3 ∷ 3 ∷ [])
-    ∷ gives (vast 0x7f7f_ffff 0x7f7f_ffff 0x3f80_0000) (replicate 4 0) (replicate 4 0) (2 ∷ 3 ∷ [])
+    ∷ gives (vast 0x7f7f_ffff 0 0x3f66_6666) (replicate 4 0) (0x7f80_0000 ∷ replicate 3 0) (3 ∷ 3 ∷ []) (255 ∷ 255 ∷ [])
+    ∷ gives (vast 0x7f7f_ffff 0x7f7f_ffff 0x3f80_0000) (replicate 4 0) (replicate 4 0) (2 ∷ 3 ∷ []) (255 ∷ 255 ∷ [])
     -- z infinite, in its real part and in its imaginary part; the same sum at phase 0
-    ∷ gives (turned 0x2000_0000 0x7f66_6665) (0x3f80_0000 ∷ 0x3f80_0000 ∷ replicate 6 0) (0x7f80_0000 ∷ replicate 7 0) (4 ∷ 0 ∷ 0 ∷ 3 ∷ [])
-    ∷ gives (turned 0x2000_0000 0x7f66_6665) (0xbf80_0000 ∷ 0x3f80_0000 ∷ []) (0 ∷ 0x7f80_0000 ∷ []) (4 ∷ [])
-    ∷ gives (turned 0 0x7f66_6665) (0x3f80_0000 ∷ 0x3f80_0000 ∷ []) (0x7f66_6665 ∷ 0x7f66_6665 ∷ []) (0 ∷ [])
+    ∷ gives (turned 0x2000_0000 0x7f66_6665) (0x3f80_0000 ∷ 0x3f80_0000 ∷ replicate 6 0) (0x7f80_0000 ∷ replicate 7 0) (4 ∷ 0 ∷ 0 ∷ 3 ∷ []) (255 ∷ 54 ∷ 54 ∷ 255 ∷ [])
+    ∷ gives (turned 0x2000_0000 0x7f66_6665) (0xbf80_0000 ∷ 0x3f80_0000 ∷ []) (0 ∷ 0x7f80_0000 ∷ []) (4 ∷ []) (255 ∷ [])
+    ∷ gives (turned 0 0x7f66_6665) (0x3f80_0000 ∷ 0x3f80_0000 ∷ []) (0x7f66_6665 ∷ 0x7f66_6665 ∷ []) (0 ∷ []) (36 ∷ [])
     -- z finite where z.im·d.re and z.re·d.im are not
-    ∷ gives (turned 0 0x7f7f_ffff) (0xbf80_0000 ∷ 0x3f80_0000 ∷ []) (0xff7f_ffff ∷ 0x7f7f_ffff ∷ []) (0 ∷ [])
+    ∷ gives (turned 0 0x7f7f_ffff) (0xbf80_0000 ∷ 0x3f80_0000 ∷ []) (0xff7f_ffff ∷ 0x7f7f_ffff ∷ []) (0 ∷ []) (4 ∷ [])
     ∷ []
 
 -- ---- the order: of two that fit the first is given; F infinite is no silence

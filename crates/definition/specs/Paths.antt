@@ -13,7 +13,7 @@ pub data Path : Type 0 where
 abbrev pub by_taps : Equalizer → Path
 by_taps q = cond (eqb (feedback q) 0) quick joint
 
--- What the function of a path promises of its answer a, from q, the input xs, and what output ys and marks ms hold before the call. It is the same of
+-- What the function of a path promises of its answer a, from q, the input xs, and what output ys, marks ms and numbers ns hold before the call. It is the same of
 -- all three paths. `reference::equalize` promises it of the plain path, `equalize` of the path by the taps.
-abbrev pub Promised : Path → Equalizer → List Float → List Float → List ℕ → Answer → Type 0
-Promised path q xs ys ms a = a ≡ equalize_def q xs ys ms
+abbrev pub Promised : Path → Equalizer → List Float → List Float → List ℕ → List ℕ → Answer → Type 0
+Promised path q xs ys ms ns a = a ≡ equalize_def q xs ys ms ns

@@ -1,8 +1,9 @@
--- The constellations: decisions, and Godard's R2.
-use Rattle.std.specs.Prelude.{ℕ, ◌+◌, ◌-◌, ◌*◌, ◌/◌, min, false, cond, ◌&&◌, List, [], ◌∷◌, ◌++◌, map, length, get_or, Float}
+-- The constellations: decisions, the numbers of the points, and Godard's R2.
+use Rattle.std.specs.Prelude.{ℕ, ◌+◌, ◌-◌, ◌*◌, ◌/◌, ◌%◌, min, Bool, false, cond, ◌&&◌, List, [], ◌∷◌, ◌++◌, map, length, get_or, eqb, Float}
 use Rattle.std.specs.Float.{nan, inf, fin, binary64}
 use Rattle.std.specs.Float.Ieee.{neg, lt, le, up, down, round}
 use Rattle.types.specs.declared.C32.{C32}
+use Rattle.types.specs.declared.Decided.{Decided}
 use Rattle.types.specs.declared.Qam.{Qam}
 use Rattle.types.specs.declared.Qam.TheVariants as qam
 use Rattle.types.specs.declared.EqConstellation.{EqConstellation}
@@ -95,6 +96,62 @@ decide Qpsk z = complex (side z.re A) (side z.im A)
 decide Psk8 z = octant_point z
 decide Qam16 z = qam_point qam.Qam16 z
 decide Qam64 z = qam_point qam.Qam64 z
+
+-- ---- the number of the point. "The decision gives point and number together."
+
+abbrev pub digit : Bool → ℕ
+digit b = cond b 1 0
+
+-- the Gray code of a level, from the lowest level up: two that are neighbours differ in one bit
+abbrev pub grays : List ℕ
+grays = 0 ∷ 1 ∷ 3 ∷ 2 ∷ 6 ∷ 7 ∷ 5 ∷ 4 ∷ []
+
+-- "QAM: `decide_symbol`": the code of the real part's level in the high bits, that of the imaginary part's in the low ones
+unfoldable pub symbol_of : Qam → C32 → ℕ
+symbol_of k z = get_or grays (level_of k z.re) 0 * level_count k + get_or grays (level_of k z.im) 0
+
+-- "BPSK: 1 if real part < 0. QPSK: 2 if real < 0, plus 1 if imaginary < 0. 8-PSK: 0 to 7 counter-clockwise from (C8, S8)."
+unfoldable pub number_of : EqConstellation → C32 → ℕ
+number_of Bpsk z = digit (lt z.re zero32)
+number_of Qpsk z = 2 * digit (lt z.re zero32) + digit (lt z.im zero32)
+number_of Psk8 z = octant z
+number_of Qam16 z = symbol_of qam.Qam16 z
+number_of Qam64 z = symbol_of qam.Qam64 z
+
+unfoldable pub decided : EqConstellation → C32 → Decided
+decided k z = record { point = decide k z; number = number_of k z }
+
+-- ---- the point of a number, the other way
+
+-- how many points there are: the numbers are 0 to one less
+abbrev pub point_count : EqConstellation → ℕ
+point_count Bpsk = 2
+point_count Qpsk = 4
+point_count Psk8 = 8
+point_count Qam16 = 16
+point_count Qam64 = 64
+
+-- a, or −a where the digit is 1
+abbrev pub signed : ℕ → Float → Float
+signed n a = cond (eqb n 1) (neg a) a
+
+-- the place in `grays`, and so the level, of each code from 0 up
+abbrev pub ungrays : List ℕ
+ungrays = 0 ∷ 1 ∷ 3 ∷ 2 ∷ 7 ∷ 6 ∷ 4 ∷ 5 ∷ []
+
+-- the level with the code n
+abbrev pub level_with : Qam → ℕ → Float
+level_with k n = get_or (levels k) (get_or ungrays n 0) nan
+
+unfoldable pub symbol_point : Qam → ℕ → C32
+symbol_point k n = complex (level_with k (n / level_count k)) (level_with k (n % level_count k))
+
+unfoldable pub point_of : EqConstellation → ℕ → C32
+point_of Bpsk n = complex (signed n one32) zero32
+point_of Qpsk n = complex (signed (n / 2) A) (signed (n % 2) A)
+point_of Psk8 n = get_or points8 n zero_c
+point_of Qam16 n = symbol_point qam.Qam16 n
+point_of Qam64 n = symbol_point qam.Qam64 n
 
 -- ---- Godard's R2 = E|a|^4 / E|a|^2 over points scaled to mean power 1
 

@@ -38,13 +38,20 @@ unfoldable reset_is : Equalizer → Equalizer → List ℕ → Bool
 reset_is q left reply = let a = reset_def q in same a.reply reply && same_equalizer a.equalizer left
 
 -- an equalizing call that is refused: all as it came
+unfoldable numbers_refused : Equalizer → List Float → List Float → List ℕ → List ℕ → List ℕ → Bool
+numbers_refused q xs ys ms ns reply =
+    let a = equalize_def q xs ys ms ns in
+    same a.reply reply && same_equalizer a.equalizer q && same (bits_of a.out) (bits_of ys) && same a.marks ms && same a.numbers ns
+
+-- .. with as many numbers as marks
+unfoldable beside : List ℕ → List ℕ
+beside ms = map (λ m. m + 1) ms
+
 unfoldable call_refused : Equalizer → List Float → List Float → List ℕ → List ℕ → Bool
-call_refused q xs ys ms reply =
-    let a = equalize_def q xs ys ms in
-    same a.reply reply && same_equalizer a.equalizer q && same (bits_of a.out) (bits_of ys) && same a.marks ms
+call_refused q xs ys ms reply = numbers_refused q xs ys ms (beside ms) reply
 
 unfoldable call_replies : Equalizer → List Float → List Float → List ℕ → List ℕ → Bool
-call_replies q xs ys ms reply = same (equalize_def q xs ys ms).reply reply
+call_replies q xs ys ms reply = same (equalize_def q xs ys ms (beside ms)).reply reply
 
 -- a setter's reply, and the record that it leaves
 unfoldable setter_is : SetAnswer → List ℕ → EqualizeState → Bool
@@ -255,7 +262,7 @@ weight_rows =
     ∷ fits_nowhere 0x7f80_0000 ∷ fits_nowhere 0xff80_0000 ∷ fits_nowhere 0x7f80_0001 ∷ fits_nowhere 0x7fc0_0000 ∷ fits_nowhere 0xffff_ffff
     ∷ []
 
--- ---- equalizing tests 1, 8, 9, 10
+-- ---- equalizing tests 1, 8, 9, 10, 13
 
 unfoldable call_rows : List Bool
 call_rows =
@@ -325,9 +332,20 @@ call_rows =
     ∷ call_refused broken four six (marks 2) (8 ∷ [])
     ∷ call_refused broken four four (marks 0) (8 ∷ [])
     ∷ call_refused start four six (marks 3) (9 ∷ 2 ∷ 3 ∷ [])
+    -- 13: its number alone
+    ∷ numbers_refused start four four (marks 2) (marks 3) (13 ∷ [])
+    ∷ numbers_refused start four four (marks 2) (marks 1) (13 ∷ [])
+    ∷ numbers_refused start four four (marks 2) [] (13 ∷ [])
+    ∷ numbers_refused start four four (marks 2) (marks 4) (13 ∷ [])
+    ∷ numbers_refused start [] [] [] (marks 1) (13 ∷ [])
+    -- 10 and 13, 9 and 13, 8 and 13, 1 and 13
+    ∷ numbers_refused start four four (marks 3) (marks 1) (10 ∷ 2 ∷ 3 ∷ [])
+    ∷ numbers_refused start four six (marks 2) (marks 3) (9 ∷ 2 ∷ 3 ∷ [])
+    ∷ numbers_refused broken four four (marks 2) (marks 3) (8 ∷ [])
+    ∷ numbers_refused start (longer four) four (marks 2) (marks 3) (1 ∷ [])
     ∷ []
 
 -- the table, whole
 unfoldable pub refusals_pass : Bool
-unfolding new_refused made_bits new_served reset_is call_refused call_replies setter_is frequency_is record_of good around eight start start_with weights_with window_with longer four six two marks broken wide ruined restarted feeding uneven new_rows reset_rows setter_rows accepted_rows accepts at_places fits_everywhere fits_nowhere weight_rows call_rows
+unfolding new_refused made_bits new_served reset_is numbers_refused beside call_refused call_replies setter_is frequency_is record_of good around eight start start_with weights_with window_with longer four six two marks broken wide ruined restarted feeding uneven new_rows reset_rows setter_rows accepted_rows accepts at_places fits_everywhere fits_nowhere weight_rows call_rows
 refusals_pass = all new_rows && all reset_rows && all setter_rows && all accepted_rows && all weight_rows && all call_rows

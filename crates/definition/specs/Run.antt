@@ -4,12 +4,12 @@ use Rattle.types.specs.declared.C32.{C32}
 use Rattle.types.specs.Numbers.{mark_number}
 use Rattle.definition.specs.Sample.{Equalizer, Out, sample_def}
 
--- what a block leaves, and one symbol and one mark for each sample
+-- what a block leaves, and one symbol, one mark and one number for each sample
 pub record Run : Type 0 where
   pub equalizer : Equalizer
   pub outs : List Out
 
--- symbols and marks in front of those of a run
+-- symbols, marks and numbers in front of those of a run
 abbrev pub ahead : List Out → Run → Run
 ahead os r = record { equalizer = r.equalizer; outs = os ++ r.outs }
 
@@ -31,3 +31,7 @@ symbol_parts o = o.symbol.re ∷ o.symbol.im ∷ []
 -- the marks have one byte for each sample, the mark's number
 abbrev pub mark_byte : Out → List ℕ
 mark_byte o = mark_number o.mark ∷ []
+
+-- so have the numbers
+abbrev pub number_byte : Out → List ℕ
+number_byte o = o.number ∷ []

@@ -18,7 +18,7 @@ use Rattle.types.specs.Bits.{zero32, one32}
 use Rattle.definition.specs.Floats.{◌+f◌, ◌-f◌, ◌*f◌, ◌/f◌, nlms_eps, mse_alpha, max_freq, flush, clip, complex, zero_c, finite_c, norm, minus_c, scaled_c, clip_c}
 use Rattle.definition.specs.Slices.{complex_length, every, shifted, filter_sum, power, updated, start_weights}
 use Rattle.definition.specs.Phase.{cos_sin, phase_step}
-use Rattle.definition.specs.Points.{decide, radius}
+use Rattle.definition.specs.Points.{decide, number_of, radius}
 use Rattle.definition.specs.Turns.{derotated, rotated}
 
 -- ---- what a caller holds
@@ -127,6 +127,18 @@ heard_mark F z = cond (not (live F)) Silent (cond (not (finite_c z)) OffScale He
 unfoldable pub mark_by : C32 → C32 → Float → C32 → Mark
 mark_by x y F z = cond (not (finite_c x)) Blank (cond (not (finite_c y)) Spilled (heard_mark F z))
 
+-- ---- The number. "One per sample, 255 where the mark isn't 0."
+
+abbrev pub no_number : ℕ
+no_number = 255
+
+unfoldable pub numbered : Mark → ℕ → ℕ
+numbered Heard n = n
+numbered Blank n = no_number
+numbered Spilled n = no_number
+numbered Silent n = no_number
+numbered OffScale n = no_number
+
 -- ---- Steps 4 to 7 put together, for a finite sample and a finite y, by document 01's letters
 
 pub record Letters : Type 0 where
@@ -134,8 +146,9 @@ pub record Letters : Type 0 where
   pub turn : CosSin
   -- the output
   pub z : C32
-  -- the decision, and what is left of z
+  -- the decision, its number, and what is left of z
   pub d : C32
+  pub number : ℕ
   pub ed : C32
   pub pe : Float
   -- the error of the mode
@@ -158,6 +171,7 @@ hear s n f h y =
       turn = t;
       z = z;
       d = d;
+      number = number_of s.params.constellation z;
       ed = ed;
       pe = norm ed;
       e = e;
@@ -167,13 +181,14 @@ hear s n f h y =
       pd = phase_error z d;
     }
 
--- what step 8 starts from: record and weights after steps 4 to 7, the output, the fed-back sample, the mark
+-- what step 8 starts from: record and weights after steps 4 to 7, the output, the fed-back sample, the mark, the number
 pub record Stage : Type 0 where
   pub state : EqualizeState
   pub weights : List Float
   pub out : C32
   pub fed : C32
   pub mark : Mark
+  pub number : ℕ
 
 unfoldable pub tracked : EqualizeState → Float → Float → EqualizeState
 tracked s pe pd = with_running s s.mode s.count (mse_after s.mse pe) (phase_after s (freq_after s pd) pd) (freq_after s pd)
@@ -186,11 +201,12 @@ heard_as s w n f h v = record {
   out = v.z;
   fed = cond (live v.F) (fed_of s.mode v.d v.turn) zero_c;
   mark = heard_mark v.F v.z;
+  number = numbered (heard_mark v.F v.z) v.number;
 }
 
 -- ---- Step 3. If x or y is not finite: output (0, 0), fed-back sample (0, 0), go to 8.
 abbrev pub passed_by : EqualizeState → List Float → Mark → Stage
-passed_by s w mark = record { state = s; weights = w; out = zero_c; fed = zero_c; mark = mark }
+passed_by s w mark = record { state = s; weights = w; out = zero_c; fed = zero_c; mark = mark; number = no_number }
 
 unfoldable pub step3 : EqualizeState → List Float → ℕ → ℕ → C32 → List Float → C32 → Stage
 step3 s w n f x h y =
@@ -218,6 +234,7 @@ advance s = advance_in s.mode s
 pub record Out : Type 0 where
   pub symbol : C32
   pub mark : Mark
+  pub number : ℕ
 
 pub record Did : Type 0 where
   pub equalizer : Equalizer
@@ -226,7 +243,7 @@ pub record Did : Type 0 where
 unfoldable pub step8 : ℕ → ℕ → List Float → Stage → Did
 step8 f m h t = record {
   equalizer = record { state = advance t.state; weights = t.weights; window = fed_in f m t.fed h };
-  out = record { symbol = t.out; mark = t.mark };
+  out = record { symbol = t.out; mark = t.mark; number = t.number };
 }
 
 -- Steps 1 to 8.

@@ -11,7 +11,7 @@ use Rattle.definition.specs.Floats.{finite_c}
 use Rattle.definition.specs.Slices.{power}
 use Rattle.definition.specs.Phase.{cos_sin}
 use Rattle.definition.specs.Turns.{derotated}
-use Rattle.definition.specs.Sample.{heard_mark, mark_by, step3, hear, heard_as, passed_by}
+use Rattle.definition.specs.Sample.{heard_mark, mark_by, numbered, step3, hear, heard_as, passed_by}
 
 module _ (s : EqualizeState) (w : List Float) (n f : ℕ) (x : C32) (h : List Float) (y : C32) where
   pub stage-blank : finite_c x ≡ false → step3 s w n f x h y ≡ passed_by s w Blank
@@ -33,6 +33,17 @@ module _ (s : EqualizeState) (w : List Float) (n f : ℕ) (x : C32) (h : List Fl
     where
       go : (a b : Bool) → (cond a (cond b (heard_as s w n f h (hear s n f h y)) (passed_by s w Spilled)) (passed_by s w Blank)).mark
           ≡ cond (not a) Blank (cond (not b) Spilled (heard_mark (power h f) (derotated y (cos_sin s.phase))))
+      go true true = refl
+      go true false = refl
+      go false b = refl
+
+  -- the number, whichever way it goes
+  pub stage-number : (step3 s w n f x h y).number ≡ numbered (mark_by x y (power h f) (derotated y (cos_sin s.phase))) (hear s n f h y).number
+  unfolding step3 heard_as hear mark_by numbered
+  stage-number = go (finite_c x) (finite_c y)
+    where
+      go : (a b : Bool) → (cond a (cond b (heard_as s w n f h (hear s n f h y)) (passed_by s w Spilled)) (passed_by s w Blank)).number
+          ≡ numbered (cond (not a) Blank (cond (not b) Spilled (heard_mark (power h f) (derotated y (cos_sin s.phase))))) (hear s n f h y).number
       go true true = refl
       go true false = refl
       go false b = refl

@@ -16,7 +16,7 @@ use Rattle.definition.specs.Slices.{samples_of}
 use Rattle.definition.specs.Sample.{Equalizer, Did, Out, sample_def}
 use Rattle.definition.specs.Packed.{Ran}
 use Rattle.definition.specs.Rules.{accepted_def}
-use Rattle.definition.specs.Run.{Run, ahead, run_def, written, symbol_parts, mark_byte}
+use Rattle.definition.specs.Run.{Run, ahead, run_def, written, symbol_parts, mark_byte, number_byte}
 use Rattle.definition_laws.proofs.Accept.{accepted_is, accepted_whole}
 use Rattle.definition_laws.proofs.Kept.{sample_accepted}
 use Rattle.definition_laws.proofs.Runs.{written_append, written_one}
@@ -66,21 +66,36 @@ module _ (A : Type 0) (f : Out → List A) (q₀ : Equalizer) (xs : List Float) 
   written_all q zs j k h e g = simp (take_all k zs h, drop_of_length-le xs {i = j} e, append-nil) at g.is
 
 -- ---- the block: i samples are done, which end at place j of the input
-pub record Progress (q₀ : Equalizer) (xs : List Float) (q : Equalizer) (ys : List Float) (ms : List ℕ) (i j : ℕ) : Type 0 where
+pub record Progress (q₀ : Equalizer) (xs : List Float) (q : Equalizer) (ys : List Float) (ms ns : List ℕ) (i j : ℕ) : Type 0 where
   pub accepted : accepted_def q ≡ true
   pub left : (run_def q (samples_of (drop j xs))).equalizer ≡ (run_def q₀ (samples_of xs)).equalizer
   pub out : Written Float symbol_parts q₀ xs q ys j j
   pub marks : Written ℕ mark_byte q₀ xs q ms j i
+  pub numbers : Written ℕ number_byte q₀ xs q ns j i
 
-pub progress_none : (q : Equalizer) (xs ys : List Float) (ms : List ℕ) → accepted_def q ≡ true → Progress q xs q ys ms 0 0
-progress_none q xs ys ms h = record { accepted = h; left = refl; out = written_none Float symbol_parts q xs ys; marks = written_none ℕ mark_byte q xs ms }
+pub progress_none : (q : Equalizer) (xs ys : List Float) (ms ns : List ℕ) → accepted_def q ≡ true → Progress q xs q ys ms ns 0 0
+progress_none q xs ys ms ns h = record {
+  accepted = h;
+  left = refl;
+  out = written_none Float symbol_parts q xs ys;
+  marks = written_none ℕ mark_byte q xs ms;
+  numbers = written_none ℕ number_byte q xs ns;
+}
 
-module _ (q₀ : Equalizer) (xs : List Float) (q : Equalizer) (ys : List Float) (ms : List ℕ) (i j : ℕ) (g : Progress q₀ xs q ys ms i j) where
-  -- one sample more: d is what it gave and left, b the byte of its mark
-  pub progress-more : (x : C32) (d : Did) (b : ℕ) → i < length ms → j + 1 < length ys → j + 1 < length xs → x ≡ complex (get_or xs j nan) (get_or xs (j + 1) nan) → d ≡ sample_def q x
-      → b ≡ mark_number d.out.mark
-      → Progress q₀ xs d.equalizer (set (set ys j d.out.symbol.re) (j + 1) d.out.symbol.im) (set ms i b) (i + 1) (j + 2)
-  progress-more x d b him hys hxs e h m =
+-- one byte more of a slice of bytes, by what f gives of a sample
+byte-more : (f : Out → List ℕ) (q₀ : Equalizer) (xs : List Float) (q : Equalizer) (zs : List ℕ) (i j : ℕ) (d : Did) (b : ℕ)
+    → run_def q (samples_of (drop j xs)) ≡ ahead (d.out ∷ []) (run_def d.equalizer (samples_of (drop (j + 2) xs)))
+    → i < length zs → f d.out ≡ b ∷ [] → Written ℕ f q₀ xs q zs j i → Written ℕ f q₀ xs d.equalizer (set zs i b) (j + 2) (i + 1)
+byte-more f q₀ xs q zs i j d b r l e =
+    written-more ℕ f q₀ xs q d.equalizer zs (set zs i b) j i (j + 2) (i + 1) (d.out ∷ []) r
+    (rw add-one (take-suc-set zs i b l) ∙ ap (λ (l : List ℕ). take i zs ++ l) (sym e ∙ sym (written_one f d.out)))
+
+module _ (q₀ : Equalizer) (xs : List Float) (q : Equalizer) (ys : List Float) (ms ns : List ℕ) (i j : ℕ) (g : Progress q₀ xs q ys ms ns i j) where
+  -- one sample more: d is what it gave and left, b the byte of its mark, c that of its number
+  pub progress-more : (x : C32) (d : Did) (b c : ℕ) → i < length ms → i < length ns → j + 1 < length ys → j + 1 < length xs → x ≡ complex (get_or xs j nan) (get_or xs (j + 1) nan) → d ≡ sample_def q x
+      → b ≡ mark_number d.out.mark → c ≡ d.out.number
+      → Progress q₀ xs d.equalizer (set (set ys j d.out.symbol.re) (j + 1) d.out.symbol.im) (set ms i b) (set ns i c) (i + 1) (j + 2)
+  progress-more x d b c him hin hys hxs e h m n =
       let rest = samples_of (drop (j + 2) xs) in
       let r : run_def q (samples_of (drop j xs)) ≡ ahead (d.out ∷ []) (run_def d.equalizer rest) =
       ap (run_def q) (samples_cons xs j hxs ∙ ap (λ (v : C32). v ∷ rest) (sym e)) ∙ run_cons q x rest d h in
@@ -89,14 +104,15 @@ module _ (q₀ : Equalizer) (xs : List Float) (q : Equalizer) (ys : List Float) 
         left = ap (λ (t : Run). t.equalizer) (sym r) ∙ g.left;
         out = written-more Float symbol_parts q₀ xs q d.equalizer ys _ j j (j + 2) (j + 2) (d.out ∷ []) r
             (take_two ys j d.out.symbol.re d.out.symbol.im hys ∙ ap (λ (l : List Float). take j ys ++ l) (sym (written_one symbol_parts d.out))) g.out;
-        marks = written-more ℕ mark_byte q₀ xs q d.equalizer ms _ j i (j + 2) (i + 1) (d.out ∷ []) r
-            (rw add-one (take-suc-set ms i b him) ∙ ap (λ (v : ℕ). take i ms ++ v ∷ []) m ∙ ap (λ (l : List ℕ). take i ms ++ l) (sym (written_one mark_byte d.out))) g.marks;
+        marks = byte-more mark_byte q₀ xs q ms i j d b r him (ap (λ (v : ℕ). v ∷ []) (sym m)) g.marks;
+        numbers = byte-more number_byte q₀ xs q ns i j d c r hin (ap (λ (v : ℕ). v ∷ []) (sym n)) g.numbers;
       }
 
-  pub progress-all : length ms ≤ i → length ys ≤ j → length xs ≤ j → Ran (run_def q₀ (samples_of xs)) q ys ms
+  pub progress-all : length ms ≤ i → length ns ≤ i → length ys ≤ j → length xs ≤ j → Ran (run_def q₀ (samples_of xs)) q ys ms ns
   unfolding run_def samples_of
-  progress-all him hys hxs = record {
+  progress-all him hin hys hxs = record {
     left = rw (drop_of_length-le xs {i = j} hxs) at g.left;
     out = written_all Float symbol_parts q₀ xs q ys j j hys hxs g.out;
     marks = written_all ℕ mark_byte q₀ xs q ms j i him hxs g.marks;
+    numbers = written_all ℕ number_byte q₀ xs q ns j i hin hxs g.numbers;
   }

@@ -9,7 +9,7 @@ use lib.Ieee.{Float}
 use Rattle.types.specs.declared.C32.{C32}
 use Rattle.definition.specs.Slices.{samples_of}
 use Rattle.definition.specs.Sample.{Equalizer, Out, sample_def}
-use Rattle.definition.specs.Run.{ahead, run_def, written, symbol_parts, mark_byte}
+use Rattle.definition.specs.Run.{ahead, run_def, written, symbol_parts, mark_byte, number_byte}
 
 -- a block in two parts
 pub run_append : (q : Equalizer) (xs ys : List C32) → run_def q (xs ++ ys) ≡ ahead (run_def q xs).outs (run_def (run_def q xs).equalizer ys)
@@ -17,7 +17,7 @@ unfolding run_def
 run_append q [] ys = refl
 run_append q (x ∷ xs) ys = ap (ahead ((sample_def q x).out ∷ [])) (run_append (sample_def q x).equalizer xs ys)
 
--- one symbol and one mark for each sample
+-- one symbol, one mark and one number for each sample
 pub run_outs : (q : Equalizer) (xs : List C32) → length (run_def q xs).outs ≡ length xs
 unfolding run_def
 run_outs q [] = refl
@@ -40,12 +40,15 @@ pub written_one : {A : Type 0} (f : Out → List A) (o : Out) → written f (o �
 unfolding written
 written_one f o = append-nil (f o)
 
--- two f32 and one byte for each sample
+-- two f32, one byte and one byte for each sample
 pub symbols_length : (os : List Out) → length (written symbol_parts os) ≡ 2 * length os
 symbols_length os = written_length symbol_parts 2 (λ o. refl) os ∙ omega arith
 
 pub marks_length : (os : List Out) → length (written mark_byte os) ≡ length os
 marks_length os = written_length mark_byte 1 (λ o. refl) os ∙ omega arith
+
+pub numbers_length : (os : List Out) → length (written number_byte os) ≡ length os
+numbers_length os = written_length number_byte 1 (λ o. refl) os ∙ omega arith
 
 half_two : (n m : ℕ) → m ≡ n / 2 → suc m ≡ suc (suc n) / 2
 half_two n m h = omega arith

@@ -33,43 +33,45 @@ module _ (b : Bool) (e : Error) (ts : List Test) where
 
 -- ---- what a call answers, by its verdict
 
-module _ (q : Equalizer) (xs ys : List Float) (ms : List ℕ) where
-  pub answered_by : equalize_def q xs ys ms ≡ answer_by (verdict_def (rules q) (lengths_of q xs ys ms)) q xs ys ms
+module _ (q : Equalizer) (xs ys : List Float) (ms ns : List ℕ) where
+  pub answered_by : equalize_def q xs ys ms ns ≡ answer_by (verdict_def (rules q) (lengths_of q xs ys ms ns)) q xs ys ms ns
   unfolding equalize_def
   answered_by = refl
 
-  pub outcome_is : (equalize_def q xs ys ms).outcome ≡ verdict_def (rules q) (lengths_of q xs ys ms)
+  pub outcome_is : (equalize_def q xs ys ms ns).outcome ≡ verdict_def (rules q) (lengths_of q xs ys ms ns)
   unfolding equalize_def
-  outcome_is = go (verdict_def (rules q) (lengths_of q xs ys ms))
+  outcome_is = go (verdict_def (rules q) (lengths_of q xs ys ms ns))
     where
-      go : (v : Outcome) → (answer_by v q xs ys ms).outcome ≡ v
+      go : (v : Outcome) → (answer_by v q xs ys ms ns).outcome ≡ v
       go (Ok tt) = refl
       go (Err e) = refl
 
-  pub reply_is : (equalize_def q xs ys ms).reply ≡ reply_of (equalize_def q xs ys ms).outcome
+  pub reply_is : (equalize_def q xs ys ms ns).reply ≡ reply_of (equalize_def q xs ys ms ns).outcome
   unfolding equalize_def
-  reply_is = go (verdict_def (rules q) (lengths_of q xs ys ms))
+  reply_is = go (verdict_def (rules q) (lengths_of q xs ys ms ns))
     where
-      go : (v : Outcome) → (answer_by v q xs ys ms).reply ≡ reply_of (answer_by v q xs ys ms).outcome
+      go : (v : Outcome) → (answer_by v q xs ys ms ns).reply ≡ reply_of (answer_by v q xs ys ms ns).outcome
       go (Ok tt) = refl
       go (Err e) = refl
 
 -- ---- what a served call says
 
-pub record Fits (q : Equalizer) (xs ys : List Float) (ms : List ℕ) : Type 0 where
+pub record Fits (q : Equalizer) (xs ys : List Float) (ms ns : List ℕ) : Type 0 where
   pub accepted : accepted_def q ≡ true
   pub even_in : length xs % 2 ≡ 0
   pub even_out : length ys % 2 ≡ 0
   pub output : length ys / 2 ≡ length xs / 2
   pub marks : length ms ≡ length xs / 2
+  pub numbers : length ns ≡ length xs / 2
 
-pub served_fits : (q : Equalizer) (xs ys : List Float) (ms : List ℕ) → verdict_def (rules q) (lengths_of q xs ys ms) ≡ (Ok tt) → Fits q xs ys ms
+pub served_fits : (q : Equalizer) (xs ys : List Float) (ms ns : List ℕ) → verdict_def (rules q) (lengths_of q xs ys ms ns) ≡ (Ok tt) → Fits q xs ys ms ns
 unfolding verdict_def equalize_tests accepted_def
-served_fits q xs ys ms h =
+served_fits q xs ys ms ns h =
     let a = fine _ _ _ h in
     let b = fine _ _ _ a.1 in
     let c = fine _ _ _ b.1 in
     let d = fine _ _ _ c.1 in
+    let e = fine _ _ _ d.1 in
     let w = whole q.weights && whole q.window in
     let wxy = and_parts (w && even (length xs)) (even (length ys)) a.0 in
     let wx = and_parts w (even (length xs)) wxy.0 in
@@ -79,4 +81,5 @@ served_fits q xs ys ms h =
       even_out = eqb-true _ _ wxy.1;
       output = eqb-true _ _ c.0;
       marks = eqb-true _ _ d.0;
+      numbers = eqb-true _ _ e.0;
     }

@@ -7,7 +7,7 @@ use Rattle.types.specs.declared.EqMode.TheVariants.{Cma, Decision}
 use Rattle.types.specs.declared.EqConstellation.{EqConstellation}
 use Rattle.types.specs.declared.EqConstellation.TheVariants.{Bpsk, Qpsk, Psk8, Qam16, Qam64}
 use Rattle.types.specs.declared.Error.{Error}
-use Rattle.types.specs.declared.Error.TheVariants.{Odd, Feedback, Taps, Window, MuCma, MuDd, Bandwidth, Record, Output, Marks}
+use Rattle.types.specs.declared.Error.TheVariants.{Odd, Feedback, Taps, Window, MuCma, MuDd, Bandwidth, Record, Output, Marks, Numbers}
 use Rattle.types.specs.Numbers.{error_number, mode_number, known_mode, mode_of, constellation_number, known_constellation, constellation_of}
 
 pub mode_known : (m : EqMode) → known_mode (mode_number m) ≡ true
@@ -43,3 +43,4 @@ not_zero Bandwidth = refl
 not_zero Record = refl
 not_zero (Output x y) = refl
 not_zero (Marks x y) = refl
+not_zero Numbers = refl

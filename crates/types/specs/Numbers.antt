@@ -7,7 +7,7 @@ use Rattle.types.specs.declared.EqMode.TheVariants.{Cma, Decision}
 use Rattle.types.specs.declared.EqConstellation.{EqConstellation}
 use Rattle.types.specs.declared.EqConstellation.TheVariants.{Bpsk, Qpsk, Psk8, Qam16, Qam64}
 use Rattle.types.specs.declared.Error.{Error}
-use Rattle.types.specs.declared.Error.TheVariants.{Odd, Feedback, Taps, Window, MuCma, MuDd, Bandwidth, Record, Output, Marks}
+use Rattle.types.specs.declared.Error.TheVariants.{Odd, Feedback, Taps, Window, MuCma, MuDd, Bandwidth, Record, Output, Marks, Numbers}
 use Rattle.types.specs.declared.numbers.UnknownNumber.{UnknownNumber}
 use Rattle.types.specs.declared.numbers.Lengths.{Lengths}
 
@@ -23,6 +23,7 @@ error_number Bandwidth = 7
 error_number Record = 8
 error_number (Output expected got) = 9
 error_number (Marks expected got) = 10
+error_number Numbers = 13
 
 -- what is returned beside the number: two lengths, or nothing
 abbrev pub lengths_of : Error → Option Lengths
@@ -36,6 +37,7 @@ lengths_of Bandwidth = None
 lengths_of Record = None
 lengths_of (Output expected got) = Some (record { expected = expected; got = got })
 lengths_of (Marks expected got) = Some (record { expected = expected; got = got })
+lengths_of Numbers = None
 
 abbrev pub mode_number : EqMode → ℕ
 mode_number Cma = 0

@@ -117,7 +117,7 @@ pub struct EqualizeState {
     pub freq: f32,
 }
 
-// Refusals 1 to 10, in this order. Lengths are in complex samples, of marks in bytes.
+// Refusals 1 to 10 and 13, in this order. Lengths are in complex samples, of marks in bytes.
 #[derive(Clone, Copy, Debug, PartialEq, Eq)]
 pub enum Error {
     Odd,
@@ -130,6 +130,7 @@ pub enum Error {
     Record,
     Output { expected: usize, got: usize },
     Marks { expected: usize, got: usize },
+    Numbers,
 }
 
 // What equalizing, reset and the setters return: the record, and whether the call was served. The record comes back from a refusal too, as it was:
@@ -149,6 +150,13 @@ pub enum Mark {
     Spilled,
     Silent,
     OffScale,
+}
+
+// A decision: the point of the constellation, and its number.
+#[derive(Clone, Copy)]
+pub struct Decided {
+    pub point: C32,
+    pub number: u8,
 }
 
 // The update of the weights: a step with two floats, or none. The specification names this form, in place of an `Option`.
@@ -193,6 +201,11 @@ impl C32 {
             im: f(self.im),
         }
     }
+}
+
+impl Decided {
+    // What stands in the place of a number where the mark is not 0.
+    pub const NO_NUMBER: u8 = 255;
 }
 
 impl EqParams {

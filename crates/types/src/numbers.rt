@@ -47,6 +47,7 @@ impl From<Error> for u32 {
             Error::Record => 8,
             Error::Output { .. } => 9,
             Error::Marks { .. } => 10,
+            Error::Numbers => 13,
         }
     }
 }

@@ -18,6 +18,7 @@ impl fmt::Display for Error {
             Error::Record => "the record breaks a rule",
             Error::Output { .. } => "the output's length is not the input's",
             Error::Marks { .. } => "the marks' length is not the input's",
+            Error::Numbers => "the numbers' length is not the input's",
         })?;
         match self.lengths() {
             Some(l) => write!(f, ": {} expected, {} given", l.expected, l.got),
