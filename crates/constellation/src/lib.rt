@@ -1,10 +1,13 @@
-// The constellations: the decision of each, and Godard's R2.
+// The constellations: the decision of each, point and number together, and Godard's R2.
 #![tactic(auto)]
 
-ghost use Rattle.std.specs.Prelude.{◌≡◌};
-ghost use Rattle.definition.specs.Points.{side as sideDef, decide as decideDef, radius};
+ghost use Rattle.std.specs.Prelude.{◌≡◌, ◌<◌};
+ghost use Rattle.std.specs.Float.Ieee.{lt};
+ghost use Rattle.types.specs.Bits.{zero32};
+ghost use Rattle.definition.specs.Points.{side as sideDef, digit as digitDef, decided, radius};
 
-use types::{C32, EqConstellation, Qam};
+pub use constellation_qam::decide_symbol;
+use types::{C32, Decided, EqConstellation, Qam};
 
 // Each part of the QPSK points, 1 / sqrt(2).
 const QPSK_A: f32 = 0.70710677;
@@ -21,17 +24,31 @@ fn side(v: f32, a: f32) -> f32
     if v < 0.0 { -a } else { a }
 }
 
-// The decision: the point of the constellation nearest to y.
-#[tactic(auto, unfolding(definition::specs::Points::decide))]
-pub fn decide(k: EqConstellation, y: C32) -> C32
-    ensures { result ≡ decideDef k y }
+// 1 where v is below zero.
+fn digit(v: f32) -> u8
+    ensures value { result ≡ digitDef (lt v zero32) }
+    ensures below { result < 2 }
+{
+    u8::from(v < 0.0)
+}
+
+// The decision: the point of the constellation nearest to y, and its number.
+#[tactic(auto, unfolding(definition::specs::Points::decided, definition::specs::Points::decide, definition::specs::Points::number_of))]
+pub fn decide(k: EqConstellation, y: C32) -> Decided
+    ensures { result ≡ decided k y }
 {
     match k {
-        EqConstellation::Bpsk => C32 {
-            re: side(y.re, 1.0),
-            im: 0.0,
+        EqConstellation::Bpsk => Decided {
+            point: C32 {
+                re: side(y.re, 1.0),
+                im: 0.0,
+            },
+            number: digit(y.re),
         },
-        EqConstellation::Qpsk => y.map(|v| side(v, QPSK_A)),
+        EqConstellation::Qpsk => Decided {
+            point: y.map(|v| side(v, QPSK_A)),
+            number: 2 * digit(y.re) + digit(y.im),
+        },
         EqConstellation::Psk8 => costas::octant_point(y),
         EqConstellation::Qam16 => constellation_qam::decide_qam(Qam::Qam16, y),
         EqConstellation::Qam64 => constellation_qam::decide_qam(Qam::Qam64, y),

@@ -1,2 +1,3 @@
--- Levels: floors and levels by a tree of comparisons.
+-- Levels: floors and levels by a tree of comparisons. Grays: the codes of the levels.
 pub mod Levels
+pub mod Grays

@@ -1,25 +1,35 @@
-// The square constellations: levels, the nearest level of a part, the nearest point.
+// The square constellations: levels, the nearest level of a part, the nearest point and its number.
 #![tactic(auto)]
 
 mod grid;
 
-ghost use Rattle.std.specs.Prelude.{◌≡◌, ◌-◌, ◌<◌, cond, pos, count_by};
+ghost use Rattle.std.specs.Prelude.{◌≡◌, ◌-◌, ◌<◌, cond, pos, count_by, get_or};
 ghost use Rattle.std.specs.List.{range_with_len};
 ghost use Rattle.std.specs.Float.{binary32};
 ghost use Rattle.std.specs.Float.Ieee.{le, of_int};
 ghost use Rattle.definition.specs.Floats.{◌+f◌, ◌*f◌, complex};
-ghost use Rattle.definition.specs.Points.{level_of, qam_point};
-ghost use Rattle.constellation_qam.specs.Nearest.{nearest, level_on};
+ghost use Rattle.definition.specs.Points.{level_of, qam_point, grays, symbol_of};
+ghost use Rattle.constellation_qam.specs.Nearest.{nearest, level_on, number_on};
 
 use crate::grid::{Grid, QAM16, QAM64};
 pub use crate::grid::{QAM16_LEVELS, QAM64_LEVELS};
-use types::{C32, Qam};
+use types::{C32, Decided, Qam};
 
 // A select: by an `if` in the loop a sample of 64-QAM took 127 ns by the plain path, and not 124.
 fn pick(b: bool, yes: f32, no: f32) -> f32
     ensures { result ≡ cond b yes no }
 {
     if b { yes } else { no }
+}
+
+// The Gray code of the level i: two levels that are neighbours differ in one bit.
+#[tactic(auto, using(crate::proofs::Grays::gray_below))]
+fn gray(i: usize) -> usize
+    requires { i < 8 }
+    ensures value { result ≡ get_or grays i 0 }
+    ensures below { result < 8 }
+{
+    i ^ (i >> 1)
 }
 
 impl<const M: usize> Grid<M> {
@@ -72,6 +82,27 @@ impl<const M: usize> Grid<M> {
             im: self.level(y.im),
         }
     }
+
+    // Its number: the code of the real part's level in the high bits.
+    fn symbol(&self, y: C32) -> usize
+        ensures value { result ≡ number_on M self.now y }
+        ensures below { result < 64 }
+    {
+        gray(self.index(y.re)) * M + gray(self.index(y.im))
+    }
+
+    // The point nearest to y, and its number. The comparisons are those of the levels; the number waits for no level.
+    fn decided(&self, y: C32) -> Decided
+        ensures point { result.point ≡ complex
+            (level_on M self.now y.re)
+            (level_on M self.now y.im) }
+        ensures number { result.number ≡ number_on M self.now y }
+    {
+        Decided {
+            point: self.point(y),
+            number: self.symbol(y) as u8,
+        }
+    }
 }
 
 // The index of the level nearest to a part v: the floor of v * sqrt(E) / 2 + m / 2, held to 0 .. m - 1.
@@ -85,13 +116,24 @@ pub fn decide_level(q: Qam, v: f32) -> u32
     }
 }
 
-// The point of either nearest to y.
-#[tactic(auto, unfolding(definition::specs::Points::levels, definition::specs::Points::level_of, definition::specs::Points::level_at, definition::specs::Points::qam_point))]
-pub fn decide_qam(q: Qam, y: C32) -> C32
-    ensures { result ≡ qam_point q y }
+// The number of the point of either nearest to y.
+#[tactic(auto, unfolding(definition::specs::Points::level_of, definition::specs::Points::symbol_of))]
+pub fn decide_symbol(q: Qam, y: C32) -> u32
+    ensures { result ≡ symbol_of q y }
 {
     match q {
-        Qam::Qam16 => QAM16.point(y),
-        Qam::Qam64 => QAM64.point(y),
+        Qam::Qam16 => QAM16.symbol(y) as u32,
+        Qam::Qam64 => QAM64.symbol(y) as u32,
+    }
+}
+
+// The point of either nearest to y, and its number.
+#[tactic(auto, unfolding(definition::specs::Points::levels, definition::specs::Points::level_of, definition::specs::Points::level_at, definition::specs::Points::qam_point, definition::specs::Points::symbol_of))]
+pub fn decide_qam(q: Qam, y: C32) -> Decided
+    ensures { result ≡ record { point = qam_point q y; number = symbol_of q y } }
+{
+    match q {
+        Qam::Qam16 => QAM16.decided(y),
+        Qam::Qam64 => QAM64.decided(y),
     }
 }
