@@ -1,4 +1,5 @@
 -- Where the detector value of a symbol is finite, so is the symbol: a difference, and a product, of which a part is not finite is not. Assumes nothing.
+use Prim.Native.Nat.{ℕ}
 use mathlib.Core.Path.{◌≡◌, refl, sym, ◌∙◌, ap}
 use mathlib.Core.Bool.{Bool, true, false, cond, not}
 use lib.Dec.{eqb}
@@ -9,7 +10,9 @@ use Rattle.std.proofs.lemmas.Bool.{and_from}
 use Rattle.types.specs.declared.C32.{C32}
 use Rattle.types.specs.declared.Mark.TheVariants.{Heard}
 use Rattle.definition.specs.Floats.{◌+f◌, ◌-f◌, ◌*f◌, complex, finite_c}
-use Rattle.steps.specs.Step.{live_mark}
+use Rattle.definition.specs.Sample.{numbered}
+use Rattle.steps.specs.declared.Told.{Told}
+use Rattle.steps.specs.Step.{live_mark, live_told}
 
 factor : (x y : Float) → finite (x *f y) ≡ true → finite x ≡ true
 unfolding mul
@@ -54,6 +57,6 @@ unfolding finite_c
 on_scale z d h = and_from (finite z.re) (finite z.im) (factor z.re d.im (taken (z.im *f d.re) (z.re *f d.im) h)) (factor z.im d.re (from (z.im *f d.re) (z.re *f d.im) h))
 
 -- a symbol z whose detector value, the second part of v, is finite is heard
-pub mark_is : (z d v : C32) (b : Bool) → v ≡ complex (z.re *f d.re +f z.im *f d.im) (z.im *f d.re -f z.re *f d.im) → b ≡ finite v.im → b ≡ true → Heard ≡ live_mark z
-unfolding live_mark
-mark_is z d v b e f t = rw (on_scale z d (ap (λ (v : C32). finite v.im) (sym e) ∙ sym f ∙ t))
+pub told_is : (z d v : C32) (n : ℕ) (b : Bool) → v ≡ complex (z.re *f d.re +f z.im *f d.im) (z.im *f d.re -f z.re *f d.im) → b ≡ finite v.im → b ≡ true → ◌≡◌ {A = Told} (record { mark = Heard; number = n }) (live_told z n)
+unfolding live_told live_mark numbered
+told_is z d v n b e f t = rw (on_scale z d (ap (λ (v : C32). finite v.im) (sym e) ∙ sym f ∙ t))

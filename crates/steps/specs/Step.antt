@@ -1,7 +1,8 @@
 -- Steps 4 to 7 as the changed numbers, in the definition's words.
-use Rattle.std.specs.Prelude.{Bool, cond, not, ◌&&◌, List, Float}
+use Rattle.std.specs.Prelude.{ℕ, Bool, cond, not, ◌&&◌, List, Float}
 use Rattle.types.specs.declared.C32.{C32}
 use Rattle.types.specs.declared.CosSin.{CosSin}
+use Rattle.types.specs.declared.Decided.{Decided}
 use Rattle.types.specs.declared.EqMode.{EqMode}
 use Rattle.types.specs.declared.EqConstellation.{EqConstellation}
 use Rattle.types.specs.declared.EqualizeState.{EqualizeState}
@@ -11,13 +12,14 @@ use Rattle.types.specs.declared.Update.{Update}
 use Rattle.types.specs.declared.Update.TheVariants.{Step, Hold}
 use Rattle.definition.specs.Floats.{zero_c, finite_c, norm, minus_c, scaled_c}
 use Rattle.definition.specs.Phase.{cos_sin}
-use Rattle.definition.specs.Points.{decide}
+use Rattle.definition.specs.Points.{decided}
 use Rattle.definition.specs.Turns.{derotated}
 use Rattle.definition.specs.Packed.{equalizer}
-use Rattle.definition.specs.Sample.{Did, with_running, mse_after, error_of, fed_of, live, heard_mark, phase_error, freq_after, phase_after, advance}
+use Rattle.definition.specs.Sample.{Did, with_running, mse_after, error_of, fed_of, live, heard_mark, no_number, numbered, phase_error, freq_after, phase_after, advance}
 use Rattle.definition.specs.Sample as sample
 use Rattle.steps.specs.declared.Track.{Track}
 use Rattle.steps.specs.declared.Aim.{Aim}
+use Rattle.steps.specs.declared.Told.{Told}
 use Rattle.steps.specs.declared.Stepped.{Stepped}
 use Rattle.steps.specs.declared.Stage.{Stage}
 use Rattle.steps.specs.declared.Sampled.{Sampled}
@@ -36,19 +38,26 @@ update_if b g = cond (b && finite_c g) (Step g.re g.im) Hold
 unfoldable pub live_mark : C32 → Mark
 live_mark z = cond (not (finite_c z)) OffScale Heard
 
--- steps 4 to 7 with c and s, z and d settled
-unfoldable pub step_at : EqualizeState → CosSin → C32 → Float → Float → C32 → C32 → Stepped
-step_at s t y F size z d = record {
-  track = track_of s (mse_after s.mse (norm (minus_c z d))) (phase_error z d);
+-- what is told of a sample with this mark, whose decision has the number n
+abbrev pub told_as : Mark → ℕ → Told
+told_as mark n = record { mark = mark; number = numbered mark n }
+
+unfoldable pub live_told : C32 → ℕ → Told
+live_told z n = told_as (live_mark z) n
+
+-- steps 4 to 7 with c and s, z and the decision v settled
+unfoldable pub step_at : EqualizeState → CosSin → C32 → Float → Float → C32 → Decided → Stepped
+step_at s t y F size z v = record {
+  track = track_of s (mse_after s.mse (norm (minus_c z v.point))) (phase_error z v.point);
   z = z;
-  fed = cond (live F) (fed_of s.mode d t) zero_c;
-  update = update_if (live F) (scaled_c size (error_of s.mode s.params.constellation y (minus_c z d) t));
-  mark = heard_mark F z;
+  fed = cond (live F) (fed_of s.mode v.point t) zero_c;
+  update = update_if (live F) (scaled_c size (error_of s.mode s.params.constellation y (minus_c z v.point) t));
+  told = told_as (heard_mark F z) v.number;
 }
 
 -- .. with c and s settled
 unfoldable pub step_with : EqualizeState → CosSin → C32 → Float → Float → Stepped
-step_with s t y F size = step_at s t y F size (derotated y t) (decide s.params.constellation (derotated y t))
+step_with s t y F size = step_at s t y F size (derotated y t) (decided s.params.constellation (derotated y t))
 
 -- steps 4 to 7 by the sum y, the forward power F and the step size
 unfoldable pub step_of : EqualizeState → C32 → Float → Float → Stepped
@@ -66,19 +75,20 @@ with_track s t = with_running s s.mode s.count t.mse t.phase t.freq
 
 -- a sample that went through steps 4 to 7, and one that did not
 abbrev pub heard_of : Stepped → Stage
-heard_of r = record { track = r.track; out = r.z; fed = r.fed; mark = r.mark }
+heard_of r = record { track = r.track; out = r.z; fed = r.fed; told = r.told }
 
 abbrev pub unheard_of : EqualizeState → Mark → Stage
-unheard_of s mark = record { track = record { mse = s.mse; freq = s.freq; phase = s.phase }; out = zero_c; fed = zero_c; mark = mark }
+unheard_of s mark =
+    record { track = record { mse = s.mse; freq = s.freq; phase = s.phase }; out = zero_c; fed = zero_c; told = record { mark = mark; number = no_number } }
 
 -- from the record s, beside the weights w
 abbrev pub stage : EqualizeState → Stage → List Float → sample.Stage
-stage s r w = record { state = with_track s r.track; weights = w; out = r.out; fed = r.fed; mark = r.mark }
+stage s r w = record { state = with_track s r.track; weights = w; out = r.out; fed = r.fed; mark = r.told.mark; number = r.told.number }
 
 -- what a sample with the stage r gives of the record s, which steps 4 to 7 and then step 8 move on
 abbrev pub sampled_of : EqualizeState → Stage → Sampled
-sampled_of s r = record { state = advance (with_track s r.track); out = r.out; mark = r.mark }
+sampled_of s r = record { state = advance (with_track s r.track); out = r.out; told = r.told }
 
 -- beside weights w and window h
 abbrev pub did : Sampled → List Float → List Float → Did
-did r w h = record { equalizer = equalizer r.state w h; out = record { symbol = r.out; mark = r.mark } }
+did r w h = record { equalizer = equalizer r.state w h; out = record { symbol = r.out; mark = r.told.mark; number = r.told.number } }

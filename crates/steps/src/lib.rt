@@ -3,14 +3,15 @@
 
 ghost use Rattle.std.specs.Prelude.{◌≡◌, true, ◌+◌, ◌%◌, ◌^◌};
 ghost use Rattle.types.specs.Bits.{one32};
+ghost use Rattle.types.specs.declared.Mark.TheVariants.{Heard};
 ghost use Rattle.definition.specs.Floats.{norm, scaled_c, clip_c};
 ghost use Rattle.definition.specs.Phase.{phase_step};
-ghost use Rattle.definition.specs.Sample.{mse_after, godard_error, phase_error, mu_of, step_size};
+ghost use Rattle.definition.specs.Sample.{mse_after, godard_error, no_number, phase_error, mu_of, step_size};
 ghost use Rattle.definition.specs.Rules.{rule_r4};
-ghost use Rattle.steps.specs.Step.{track_of, aimed, update_if, live_mark, step_with, step_of, running_of, with_track, heard_of, unheard_of, sampled_of};
+ghost use Rattle.steps.specs.Step.{track_of, aimed, update_if, live_told, step_with, step_of, running_of, with_track, heard_of, unheard_of, sampled_of};
 ghost use Rattle.steps.specs.Weight.{lane_re, lane_im};
 
-use types::{C32, CosSin, EqMode, EqualizeState, Mark, Update};
+use types::{C32, CosSin, Decided, EqMode, EqualizeState, Mark, Update};
 
 // The part of the mean error that a sample renews.
 const MSE_ALPHA: f32 = 0.01;
@@ -27,6 +28,13 @@ pub struct Track {
     pub phase: u32,
 }
 
+// What is told of a sample beside its symbol: the mark, and the number of the point that it decides to.
+#[derive(Clone, Copy)]
+pub struct Told {
+    pub mark: Mark,
+    pub number: u8,
+}
+
 // What steps 4 to 7 give.
 #[derive(Clone, Copy)]
 pub struct Stepped {
@@ -34,7 +42,7 @@ pub struct Stepped {
     pub z: C32,
     pub fed: C32,
     pub update: Update,
-    pub mark: Mark,
+    pub told: Told,
 }
 
 // What step 8 starts from, beside the weights.
@@ -43,22 +51,22 @@ pub struct Stage {
     pub track: Track,
     pub out: C32,
     pub fed: C32,
-    pub mark: Mark,
+    pub told: Told,
 }
 
-// What a sample gives, and the record after it. Symbol and mark go apart at once, into output and marks, and are no struct of their own.
+// What a sample gives, and the record after it. Symbol, mark and number go apart at once, into output, marks and numbers.
 #[derive(Clone, Copy)]
 pub struct Sampled {
     pub state: EqualizeState,
     pub out: C32,
-    pub mark: Mark,
+    pub told: Told,
 }
 
-// The running numbers after a sample, and the mark of its symbol.
+// The running numbers after a sample, and what is told of its symbol.
 #[derive(Clone, Copy)]
 struct Marked {
     track: Track,
-    mark: Mark,
+    told: Told,
 }
 
 // The error of the mode, and the sample to feed back.
@@ -66,6 +74,28 @@ struct Marked {
 struct Aim {
     e: C32,
     fed: C32,
+}
+
+impl Told {
+    // Of a sample with the mark 0.
+    fn heard(number: u8) -> Told
+        ensures { result ≡ record { mark = Heard; number = number } }
+    {
+        Told {
+            mark: Mark::Heard,
+            number,
+        }
+    }
+
+    // Of a sample with another mark.
+    fn unheard(mark: Mark) -> Told
+        ensures { result ≡ record { mark = mark; number = no_number } }
+    {
+        Told {
+            mark,
+            number: Decided::NO_NUMBER,
+        }
+    }
 }
 
 // The running numbers of a record.
@@ -104,7 +134,7 @@ impl From<Stepped> for Stage {
             track: r.track,
             out: r.z,
             fed: r.fed,
-            mark: r.mark,
+            told: r.told,
         }
     }
 }
@@ -119,7 +149,7 @@ impl Stage {
             track: Track::from(s),
             out: zero,
             fed: zero,
-            mark,
+            told: Told::unheard(mark),
         }
     }
 
@@ -133,7 +163,7 @@ impl Stage {
         Sampled {
             state: record_mode::advance(self.track.on(s)),
             out: self.out,
-            mark: self.mark,
+            told: self.told,
         }
     }
 }
@@ -165,37 +195,37 @@ fn turned(s: EqualizeState, mse: f32, p: f32) -> Track
     }
 }
 
-// The mark of a symbol, where the forward window is not silent.
-#[tactic(auto, unfolding(crate::specs::Step::live_mark))]
-fn mark_of(z: C32) -> Mark
-    ensures { result ≡ live_mark z }
+// What is told of a symbol that decides to the point with this number, where the forward window is not silent.
+#[tactic(auto, unfolding(crate::specs::Step::live_told, crate::specs::Step::live_mark, definition::specs::Sample::numbered))]
+fn told_of(z: C32, number: u8) -> Told
+    ensures { result ≡ live_told z number }
 {
     if numeric::finite_c(z) {
-        Mark::Heard
+        Told::heard(number)
     } else {
-        Mark::OffScale
+        Told::unheard(Mark::OffScale)
     }
 }
 
-// The running numbers after the symbol z with the decision d, e apart, and the mark of z. A detector value that is not finite counts as 0; where it is
+// The running numbers after the symbol z with the decision d, e apart, and what is told of z. A detector value that is not finite counts as 0; where it is
 // finite, z is. Two calls: where p is chosen before one call, the next sample waits for the choice, 3 ns. Out of line a sample takes 3 ns longer.
 #[inline(always)]
-#[tactic(auto, unfolding(definition::specs::Sample::phase_error), using(crate::proofs::OnScale::mark_is))]
-fn tracked(s: EqualizeState, z: C32, d: C32, e: C32) -> Marked
-    ensures track { result.track ≡ track_of s (mse_after s.mse (norm e)) (phase_error z d) }
-    ensures mark { result.mark ≡ live_mark z }
+#[tactic(auto, unfolding(definition::specs::Sample::phase_error), using(crate::proofs::OnScale::told_is))]
+fn tracked(s: EqualizeState, z: C32, d: Decided, e: C32) -> Marked
+    ensures track { result.track ≡ track_of s (mse_after s.mse (norm e)) (phase_error z d.point) }
+    ensures told { result.told ≡ live_told z d.number }
 {
-    let p = complex::times_conj(z, d).im;
+    let p = complex::times_conj(z, d.point).im;
     let mse = mean(s.mse, e);
     if numeric::is_finite(p) {
         Marked {
             track: turned(s, mse, p),
-            mark: Mark::Heard,
+            told: Told::heard(d.number),
         }
     } else {
         Marked {
             track: turned(s, mse, 0.0),
-            mark: mark_of(z),
+            told: told_of(z, d.number),
         }
     }
 }
@@ -248,9 +278,9 @@ pub fn step(s: EqualizeState, t: CosSin, y: C32, forward: f32, m: f32) -> Steppe
 {
     let z = costas::derotate(y, t);
     let d = constellation::decide(s.params.constellation, z);
-    let e = z - d;
-    let a = aim_of(s, t, y, d, e);
-    let Marked { track, mark } = tracked(s, z, d, e);
+    let e = z - d.point;
+    let a = aim_of(s, t, y, d.point, e);
+    let Marked { track, told } = tracked(s, z, d, e);
     if forward == 0.0 {
         let fed = C32::ZERO;
         Stepped {
@@ -258,7 +288,7 @@ pub fn step(s: EqualizeState, t: CosSin, y: C32, forward: f32, m: f32) -> Steppe
             z,
             fed,
             update: Update::Hold,
-            mark: Mark::Silent,
+            told: Told::unheard(Mark::Silent),
         }
     } else {
         Stepped {
@@ -266,7 +296,7 @@ pub fn step(s: EqualizeState, t: CosSin, y: C32, forward: f32, m: f32) -> Steppe
             z,
             fed: a.fed,
             update: update_of(a.e, m),
-            mark,
+            told,
         }
     }
 }
