@@ -94,10 +94,11 @@ pub fn block(
     input: &[f32],
     output: &mut [f32],
     marks: &mut [u8],
+    numbers: &mut [u8],
 ) -> EqualizeState
-    requires { ServedBlock (equalizer state weights.old window.old) input.now output.old marks.old }
+    requires { ServedBlock (equalizer state weights.old window.old) input.now output.old marks.old numbers.old }
     ensures { Ran (run_def (equalizer state weights.old window.old) (samples_of input.now))
-        (equalizer result weights.new window.new) output.new marks.new }
+        (equalizer result weights.new window.new) output.new marks.new numbers.new }
 {
     let mut s = state;
     // by the place, which input and output need: numbers of an interleaved slice
@@ -105,7 +106,8 @@ pub fn block(
         let x = complex::at(input, i);
         let r = sample(s, weights, window, x);
         complex::put(output, i, r.out);
-        *mark = u8::from(r.mark);
+        *mark = u8::from(r.told.mark);
+        numbers[i] = r.told.number;
         s = r.state;
     }
     s

@@ -80,7 +80,7 @@ pub fn reset_verdict(s: EqualizeState, w: &[f32], h: &[f32]) -> Result<(), Error
     ensure(holds, Error::Record)
 }
 
-// Tests 1, 8, 9 and 10 of equalizing, by the lengths of input, output and marks: three numbers and no slices, so that any lengths can be asked of, and no
+// Tests 1, 8, 9, 10 and 13 of equalizing, by the lengths of input, output, marks and numbers: four numbers and no slices, so that any lengths can be asked of, and no
 // struct, which both callers would make for this call alone.
 #[tactic(auto, unfolding(definition::specs::Refusals::first_of, definition::specs::Calls::verdict_def, definition::specs::Calls::equalize_tests))]
 pub fn verdict(
@@ -90,14 +90,16 @@ pub fn verdict(
     xs: usize,
     ys: usize,
     ms: usize,
+    ns: usize,
 ) -> Result<(), Error>
     ensures { result ≡ verdict_def (rulesDef (equalizer s w.now h.now))
-        (record { weights = length w.now; window = length h.now; input = xs; output = ys; marks = ms }) }
+        (record { weights = length w.now; window = length h.now; input = xs; output = ys; marks = ms; numbers = ns }) }
 {
     ensure(all_even(w.len(), h.len(), xs, ys), Error::Odd)?;
     ensure(record_rules::rules(s, w, h), Error::Record)?;
     let expected = xs / 2;
     let got = ys / 2;
     ensure(got == expected, Error::Output { expected, got })?;
-    ensure(ms == expected, Error::Marks { expected, got: ms })
+    ensure(ms == expected, Error::Marks { expected, got: ms })?;
+    ensure(ns == expected, Error::Numbers)
 }

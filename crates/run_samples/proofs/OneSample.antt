@@ -117,7 +117,7 @@ by_state : (n m : ℕ) (s : EqualizeState) (w h : List Float) (x : C32) → (sam
 unfolding sample_by step8 stage_of
 by_state n m s w h x = refl
 
-by_out : (n m : ℕ) (s : EqualizeState) (w h : List Float) (x : C32) → (sample_by (n + m) n m (equalizer s w h) x).out ≡ record { symbol = (stage_of s w h n m x).out; mark = (stage_of s w h n m x).mark }
+by_out : (n m : ℕ) (s : EqualizeState) (w h : List Float) (x : C32) → (sample_by (n + m) n m (equalizer s w h) x).out ≡ record { symbol = (stage_of s w h n m x).out; mark = (stage_of s w h n m x).mark; number = (stage_of s w h n m x).number }
 unfolding sample_by step8 stage_of
 by_out n m s w h x = refl
 
@@ -129,10 +129,11 @@ module _ (s : EqualizeState) (w h : List Float) (n m at : ℕ) (a : Arrays) (x :
       let v : advance (with_track s r.track) ≡ (sample_def (equalizer s w h) x).equalizer.state = ap (λ (k : sample.Stage). advance k.state) t ∙ sym (by_state n m s w h x) ∙ sym (ap (λ (d : Did). d.equalizer.state) b) in
       let o = sym (by_out n m s w h x) ∙ sym (ap (λ (d : Did). d.out) b) in
       let z : r.out ≡ (sample_def (equalizer s w h) x).out.symbol = ap (λ (k : sample.Stage). k.out) t ∙ ap (λ (d : Out). d.symbol) o in
-      let y : r.mark ≡ (sample_def (equalizer s w h) x).out.mark = ap (λ (k : sample.Stage). k.mark) t ∙ ap (λ (d : Out). d.mark) o in
+      let y : r.told.mark ≡ (sample_def (equalizer s w h) x).out.mark = ap (λ (k : sample.Stage). k.mark) t ∙ ap (λ (d : Out). d.mark) o in
+      let u : r.told.number ≡ (sample_def (equalizer s w h) x).out.number = ap (λ (k : sample.Stage). k.number) t ∙ ap (λ (d : Out). d.number) o in
       λ j. record {
         equalizer = record { state = v j; weights = (sample_def (equalizer s w h) x).equalizer.weights; window = (sample_def (equalizer s w h) x).equalizer.window };
-        out = record { symbol = z j; mark = y j };
+        out = record { symbol = z j; mark = y j; number = u j };
       }
 
 pub sampled_is : (s : EqualizeState) (g : Shape) (at : ℕ) (x : C32) (F ahead : Float) (limit : List Float) (a a' : Arrays) (r : Stage) (k : Sampled)

@@ -31,35 +31,37 @@ use Rattle.record_mode.proofs.Counts.{count_below}
 use Rattle.definition_laws.proofs.Progress.{Progress, progress_none, progress-more, progress-all}
 
 -- after k samples from q₀: weights and window, how far the block has come, what the arrays hold, and the mode
-pub record Reached (n m : ℕ) (s₀ : EqualizeState) (q₀ : Equalizer) (xs : List Float) (a : Arrays) (ys : List Float) (ms : List ℕ) (s : EqualizeState) (k : ℕ) : Type 0 where
+pub record Reached (n m : ℕ) (s₀ : EqualizeState) (q₀ : Equalizer) (xs : List Float) (a : Arrays) (ys : List Float) (ms ns : List ℕ) (s : EqualizeState) (k : ℕ) : Type 0 where
   pub weights : List Float
   pub window : List Float
-  pub done : Progress q₀ xs (equalizer s weights window) ys ms k (2 * k)
+  pub done : Progress q₀ xs (equalizer s weights window) ys ms ns k (2 * k)
   pub holds : Holds n m (64 - k) a (equalizer s weights window)
   pub clock : k ≤ 63 → Clock s₀ k s
 
-pub record RunLoop (s₀ : EqualizeState) (g : Shape) (limit : List Float) (a₀ : Arrays) (ps ss xs : List Float) (a : Arrays) (ys : List Float) (ms : List ℕ) (s : EqualizeState) (k : ℕ) : Type 0 where
+pub record RunLoop (s₀ : EqualizeState) (g : Shape) (limit : List Float) (a₀ : Arrays) (ps ss xs : List Float) (a : Arrays) (ys : List Float) (ms ns : List ℕ) (s : EqualizeState) (k : ℕ) : Type 0 where
   pub front : Front a₀ a
   pub counts : rule_r4 s ≡ true
   pub here : k ≤ length ms
   pub most : length ms ≤ 64
   pub input : length xs ≡ 2 * length ms
   pub output : length ys ≡ 2 * length ms
-  pub reached : (n : ℕ) (w h : List Float) → accepted_def (equalizer s₀ w h) ≡ true → RunReady s₀ g n limit a₀ ps ss xs w h → Reached n g.m s₀ (equalizer s₀ w h) xs a ys ms s k
+  pub numbers : length ns ≡ length ms
+  pub reached : (n : ℕ) (w h : List Float) → accepted_def (equalizer s₀ w h) ≡ true → RunReady s₀ g n limit a₀ ps ss xs w h → Reached n g.m s₀ (equalizer s₀ w h) xs a ys ms ns s k
 
-pub loop_none : (s : EqualizeState) (g : Shape) (limit : List Float) (a : Arrays) (ps ss xs ys : List Float) (ms : List ℕ) → rule_r4 s ≡ true
-    → length ms ≤ 64 → length xs ≡ 2 * length ms → length ys ≡ 2 * length ms → RunLoop s g limit a ps ss xs a ys ms s 0
-loop_none s g limit a ps ss xs ys ms c t i o = record {
+pub loop_none : (s : EqualizeState) (g : Shape) (limit : List Float) (a : Arrays) (ps ss xs ys : List Float) (ms ns : List ℕ) → rule_r4 s ≡ true
+    → length ms ≤ 64 → length xs ≡ 2 * length ms → length ys ≡ 2 * length ms → length ns ≡ length ms → RunLoop s g limit a ps ss xs a ys ms ns s 0
+loop_none s g limit a ps ss xs ys ms ns c t i o n = record {
   front = record { re = λ i b. refl; im = λ i b. refl };
   counts = c;
   here = omega arith;
   most = t;
   input = i;
   output = o;
+  numbers = n;
   reached = λ n w h ok b. record {
     weights = w;
     window = h;
-    done = progress_none (equalizer s w h) xs ys ms ok;
+    done = progress_none (equalizer s w h) xs ys ms ns ok;
     holds = b.holds;
     clock = λ z. clock_none s (λ e f. count_below s e f c);
   };
@@ -80,12 +82,12 @@ ticked s₀ s r t k e c l =
     clock_next s₀ s r k c l (ap (λ (z : EqualizeState). z.mode) e) (ap (λ (z : EqualizeState). z.count) e)
     (ap (λ (z : EqualizeState). z.params) e ∙ ap (λ (z : EqualizeState). z.params) (advance_keeps s))
 
-module _ (s₀ : EqualizeState) (g : Shape) (limit : List Float) (a₀ : Arrays) (ps ss xs : List Float) (a : Arrays) (ys : List Float) (ms : List ℕ) (s : EqualizeState) (k : ℕ) (o : RunLoop s₀ g limit a₀ ps ss xs a ys ms s k) where
+module _ (s₀ : EqualizeState) (g : Shape) (limit : List Float) (a₀ : Arrays) (ps ss xs : List Float) (a : Arrays) (ys : List Float) (ms ns : List ℕ) (s : EqualizeState) (k : ℕ) (o : RunLoop s₀ g limit a₀ ps ss xs a ys ms ns s k) where
   -- the forward window as it was when the powers were made
   lies-front : (n at : ℕ) (l : List Float) → at ≤ 63 → n ≤ 63 → Lies a.xr a.xi at l 0 n → Lies a₀.xr a₀.xi at l 0 n
   lies-front n at l b c y = record { re_is = λ j h. sym (o.front.re (at + j) (omega arith)) ∙ y.re_is j h; im_is = λ j h. sym (o.front.im (at + j) (omega arith)) ∙ y.im_is j h }
 
-  before-sample : (n : ℕ) (w h : List Float) (b : RunReady s₀ g n limit a₀ ps ss xs w h) (z : Reached n g.m s₀ (equalizer s₀ w h) xs a ys ms s k) → k < length ms
+  before-sample : (n : ℕ) (w h : List Float) (b : RunReady s₀ g n limit a₀ ps ss xs w h) (z : Reached n g.m s₀ (equalizer s₀ w h) xs a ys ms ns s k) → k < length ms
       → Before s g n (63 - k) (complex (re_at xs k) (im_at xs k)) (get_or ps (63 - k) nan) (get_or ss (63 - k) nan) limit a z.weights z.window
   before-sample n w h b z l =
       let x = complex (re_at xs k) (im_at xs k) in
@@ -102,16 +104,17 @@ module _ (s₀ : EqualizeState) (g : Shape) (limit : List Float) (a₀ : Arrays)
         size_is = λ u. size_at s₀ s ps ss (64 - length xs / 2) k b.sizes (z.clock (omega (arith, o.most))) (omega (arith, o.most)) (omega (arith, o.input, o.most)) (dec_lt k (cma_left s₀));
       }
 
-  pub loop_more : (x : C32) (r : Sampled) (b : ℕ) (a' : Arrays) (ys' : List Float) → k < length ms → x.re ≡ re_at xs k → x.im ≡ im_at xs k → b ≡ mark_number r.mark
+  pub loop_more : (x : C32) (r : Sampled) (b c : ℕ) (a' : Arrays) (ys' : List Float) → k < length ms → x.re ≡ re_at xs k → x.im ≡ im_at xs k → b ≡ mark_number r.told.mark → c ≡ r.told.number
       → Samples s g (63 - k) x (get_or ps (63 - k) nan) (get_or ss (63 - k) nan) limit a a' r → ys' ≡ set (set ys (2 * k) r.out.re) (2 * k + 1) r.out.im
-      → RunLoop s₀ g limit a₀ ps ss xs a' ys' (set ms k b) r.state (k + 1)
-  loop_more x r b a' ys' l xr xi v p e = record {
+      → RunLoop s₀ g limit a₀ ps ss xs a' ys' (set ms k b) (set ns k c) r.state (k + 1)
+  loop_more x r b c a' ys' l xr xi v y p e = record {
     front = record { re = λ i b. p.front.re i b ∙ o.front.re i b; im = λ i b. p.front.im i b ∙ o.front.im i b };
     counts = p.counts;
     here = simp length-set (omega arith);
     most = simp length-set o.most;
     input = simp length-set o.input;
     output = rw e (simp length-set o.output);
+    numbers = simp length-set o.numbers;
     reached = λ n w h ok u.
         let z = o.reached n w h ok u in
         let X : x ≡ complex (re_at xs k) (im_at xs k) = λ i. record { re = xr i; im = xi i } in
@@ -121,13 +124,13 @@ module _ (s₀ : EqualizeState) (g : Shape) (limit : List Float) (a₀ : Arrays)
         record {
           weights = d.weights;
           window = d.window;
-          done = rw (e, t) (progress-more (equalizer s₀ w h) xs (equalizer s z.weights z.window) ys ms k (2 * k) z.done x (did r d.weights d.window) b l (omega (arith, o.output)) (omega (arith, o.input)) X d.is v);
+          done = rw (e, t) (progress-more (equalizer s₀ w h) xs (equalizer s z.weights z.window) ys ms ns k (2 * k) z.done x (did r d.weights d.window) b c l (omega (arith, o.numbers)) (omega (arith, o.output)) (omega (arith, o.input)) X d.is v y);
           holds = rw f d.holds;
-          clock = λ y. ticked s₀ s r.state p.track k p.ticks (z.clock (omega arith)) y;
+          clock = λ j. ticked s₀ s r.state p.track k p.ticks (z.clock (omega arith)) j;
         };
   }
 
-  pub loop_all : length ms ≤ k → Runs s₀ g limit a₀ ps ss xs a ys ms s
+  pub loop_all : length ms ≤ k → Runs s₀ g limit a₀ ps ss xs a ys ms ns s
   loop_all l = record {
     counts = o.counts;
     input = o.input;
@@ -137,7 +140,7 @@ module _ (s₀ : EqualizeState) (g : Shape) (limit : List Float) (a₀ : Arrays)
         record {
           weights = z.weights;
           window = z.window;
-          ran = progress-all (equalizer s₀ w h) xs (equalizer s z.weights z.window) ys ms k (2 * k) z.done l (omega (arith, o.output)) (omega (arith, o.input));
+          ran = progress-all (equalizer s₀ w h) xs (equalizer s z.weights z.window) ys ms ns k (2 * k) z.done l (omega (arith, o.numbers)) (omega (arith, o.output)) (omega (arith, o.input));
           holds = rw e z.holds;
         };
   }

@@ -14,9 +14,9 @@ use Rattle.lanes_prepare.specs.Clock.{StepSizes}
 use Rattle.lanes.specs.declared.Shape.{Shape}
 use Rattle.run_samples.specs.Sample.{Setting}
 
--- input, output and marks of the same samples; the three go one by one, as the call of the specification has them
-abbrev pub SameSamples : List Float → List Float → List ℕ → Type 0
-SameSamples xs ys ms = (length xs ≡ 2 * length ms) × (length ys ≡ 2 * length ms)
+-- input, output, marks and numbers of the same samples; the four go one by one, as the call of the specification has them
+abbrev pub SameSamples : List Float → List Float → List ℕ → List ℕ → Type 0
+SameSamples xs ys ms ns = (length xs ≡ 2 * length ms) × ((length ys ≡ 2 * length ms) × (length ns ≡ length ms))
 
 -- the powers ps of the windows that lie in the arrays, from the place `from` on
 pub record Powered (n from : ℕ) (xr xi ps : List Float) : Type 0 where
@@ -31,14 +31,14 @@ pub record RunReady (s : EqualizeState) (g : Shape) (n : ℕ) (limit : List Floa
   pub sizes : StepSizes s ps (64 - length xs / 2) ss
 
 -- after a run from q over xs: its outcome, and what the arrays hold of it, at p
-pub record After (n m p : ℕ) (q : Equalizer) (xs ys : List Float) (ms : List ℕ) (a : Arrays) (s : EqualizeState) : Type 0 where
+pub record After (n m p : ℕ) (q : Equalizer) (xs ys : List Float) (ms ns : List ℕ) (a : Arrays) (s : EqualizeState) : Type 0 where
   pub weights : List Float
   pub window : List Float
-  pub ran : Ran (run_def q (samples_of xs)) (equalizer s weights window) ys ms
+  pub ran : Ran (run_def q (samples_of xs)) (equalizer s weights window) ys ms ns
   pub holds : Holds n m p a (equalizer s weights window)
 
-pub record Runs (s : EqualizeState) (g : Shape) (limit : List Float) (a : Arrays) (ps ss xs : List Float) (a' : Arrays) (ys : List Float) (ms : List ℕ) (r : EqualizeState) : Type 0 where
+pub record Runs (s : EqualizeState) (g : Shape) (limit : List Float) (a : Arrays) (ps ss xs : List Float) (a' : Arrays) (ys : List Float) (ms ns : List ℕ) (r : EqualizeState) : Type 0 where
   pub counts : rule_r4 r ≡ true
   pub input : length xs ≡ 2 * length ms
   pub after : (n : ℕ) (w h : List Float) → accepted_def (equalizer s w h) ≡ true → RunReady s g n limit a ps ss xs w h
-      → After n g.m (64 - length ms) (equalizer s w h) xs ys ms a' r
+      → After n g.m (64 - length ms) (equalizer s w h) xs ys ms ns a' r

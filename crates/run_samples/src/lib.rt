@@ -87,7 +87,7 @@ fn sample(s: EqualizeState, call: &Call, e: Entry, w: &mut Weights, h: &mut Wind
     r.sampled(s)
 }
 
-// The samples of a run, at most RUN, which stand in the forward window, the first at RUN - 1. The index is the sample's place in four arrays more.
+// The samples of a run, at most RUN, which stand in the forward window, the first at RUN - 1. The index is the sample's place in five arrays more.
 pub fn run(
     state: EqualizeState,
     call: &Call,
@@ -97,11 +97,12 @@ pub fn run(
     input: &[f32],
     output: &mut [f32],
     marks: &mut [u8],
+    numbers: &mut [u8],
 ) -> EqualizeState
-    requires marks_len_bound { (length marks.old ≤ 64) × SameSamples input.now output.old marks.old }
+    requires marks_len_bound { (length marks.old ≤ 64) × SameSamples input.now output.old marks.old numbers.old }
     requires state_value { rule_r4 state ≡ true }
     ensures { Runs state call.now.shape call.now.limit (arrays_of w.old h.old) ahead.now.power ahead.now.steps input.now
-        (arrays_of w.new h.new) output.new marks.new result }
+        (arrays_of w.new h.new) output.new marks.new numbers.new result }
 {
     let mut s = state;
     for (k, mark) in marks.iter_mut().enumerate() {
@@ -114,7 +115,8 @@ pub fn run(
         };
         let r = sample(s, call, e, w, h);
         complex::put(output, k, r.out);
-        *mark = u8::from(r.mark);
+        *mark = u8::from(r.told.mark);
+        numbers[k] = r.told.number;
         s = r.state;
     }
     s

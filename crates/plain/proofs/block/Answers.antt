@@ -5,4 +5,4 @@ use Rattle.plain.proofs.BlockLoop.{turns_more}
 use Rattle.plain.proofs.block.Goals as goal
 
 pub loop-i-preserved : goal.loop-i-preserved
-loop-i-preserved c = turns_more _ _ _ _ _ _ c.loop-i.invariant _ _ _ _ _ _ _ _ (omega arith) c.sample-r.ensures c.at-x.ensures.0 c.at-x.ensures.1 c.from.ensures c.put.ensures
+loop-i-preserved c = turns_more _ _ _ _ _ _ _ c.loop-i.invariant _ _ _ _ _ _ _ _ _ (omega arith) c.sample-r.ensures c.at-x.ensures.0 c.at-x.ensures.1 c.from.ensures c.put.ensures
