@@ -12,7 +12,7 @@ use Rattle.capi_numbers.specs.RawRecord.{read_record}
 use Rattle.capi_numbers.proofs.Facts.{record_ok}
 use Rattle.capi.specs.Raw.{block_out, equalize_raw}
 
-module _ (p : EqRecord) (w h xs ys : List Float) (ms : List ℕ) where
-  pub block_known : (s : EqualizeState) → read_record p ≡ Ok s → equalize_raw p w h xs ys ms ≡ block_out (equalize_def (equalizer s w h) xs ys ms)
+module _ (p : EqRecord) (w h xs ys : List Float) (ms ns : List ℕ) where
+  pub block_known : (s : EqualizeState) → read_record p ≡ Ok s → equalize_raw p w h xs ys ms ns ≡ block_out (equalize_def (equalizer s w h) xs ys ms ns)
   unfolding equalize_raw
   block_known s y = let k = record_ok p s y in rw (k.0, ← k.1)

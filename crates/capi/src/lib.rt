@@ -20,14 +20,15 @@ fn call<E>(
     input: &[f32],
     output: &mut [f32],
     marks: &mut [u8],
+    numbers: &mut [u8],
     equalize: E,
 ) -> EqReply
 where
-    E: FnOnce(EqualizeState, &mut [f32], &mut [f32], &[f32], &mut [f32], &mut [u8]) -> Equalized,
+    E: FnOnce(EqualizeState, &mut [f32], &mut [f32], &[f32], &mut [f32], &mut [u8], &mut [u8]) -> Equalized,
     requires callable { E.IsAlwaysCallable equalize }
     requires defined { AsDefined (E.post equalize) }
-    ensures { block result weights.new window.new output.new marks.new
-        ≡ equalize_raw raw weights.old window.old input.now output.old marks.old }
+    ensures { block result weights.new window.new output.new marks.new numbers.new
+        ≡ equalize_raw raw weights.old window.old input.now output.old marks.old numbers.old }
 {
     let Ok(state) = EqualizeState::try_from(raw) else {
         let evens = record_verdict::all_even(
@@ -38,7 +39,7 @@ where
         );
         return EqReply::unknown(raw, evens);
     };
-    EqReply::from(equalize(state, weights, window, input, output, marks))
+    EqReply::from(equalize(state, weights, window, input, output, marks, numbers))
 }
 
 // A block of samples: in runs, the quick path without feedback taps and the joint path with them, or sample by sample where it is short. Same answer as `eq_reference`.
@@ -49,9 +50,10 @@ pub fn eq_equalize(
     input: &[f32],
     output: &mut [f32],
     marks: &mut [u8],
+    numbers: &mut [u8],
 ) -> EqReply
-    ensures { PromisedRaw eq_equalize raw weights.old window.old input.now output.old marks.old
-        (block result weights.new window.new output.new marks.new) }
+    ensures { PromisedRaw eq_equalize raw weights.old window.old input.now output.old marks.old numbers.old
+        (block result weights.new window.new output.new marks.new numbers.new) }
 {
     call(
         raw,
@@ -60,11 +62,12 @@ pub fn eq_equalize(
         input,
         output,
         marks,
+        numbers,
         equalize::equalize,
     )
 }
 
-// A block of samples by the plain path. Refusals 1, 8, 9 and 10.
+// A block of samples by the plain path. Refusals 1, 8, 9, 10 and 13.
 pub fn eq_reference(
     raw: EqRecord,
     weights: &mut [f32],
@@ -72,9 +75,10 @@ pub fn eq_reference(
     input: &[f32],
     output: &mut [f32],
     marks: &mut [u8],
+    numbers: &mut [u8],
 ) -> EqReply
-    ensures { PromisedRaw eq_reference raw weights.old window.old input.now output.old marks.old
-        (block result weights.new window.new output.new marks.new) }
+    ensures { PromisedRaw eq_reference raw weights.old window.old input.now output.old marks.old numbers.old
+        (block result weights.new window.new output.new marks.new numbers.new) }
 {
     call(
         raw,
@@ -83,6 +87,7 @@ pub fn eq_reference(
         input,
         output,
         marks,
+        numbers,
         equalize::reference::equalize,
     )
 }

@@ -57,14 +57,15 @@ pub extern "C" fn eq_equalize(
     input: &[f32],
     output: &mut [f32],
     marks: &mut [u8],
+    numbers: &mut [u8],
 ) -> EqReply
-    ensures { PromisedRaw eq_equalize raw weights.old window.old input.now output.old marks.old
-        (block result weights.new window.new output.new marks.new) }
+    ensures { PromisedRaw eq_equalize raw weights.old window.old input.now output.old marks.old numbers.old
+        (block result weights.new window.new output.new marks.new numbers.new) }
 {
-    capi::eq_equalize(raw, weights, window, input, output, marks)
+    capi::eq_equalize(raw, weights, window, input, output, marks, numbers)
 }
 
-// A block of samples by the plain path. Refusals 1, 8, 9 and 10.
+// A block of samples by the plain path. Refusals 1, 8, 9, 10 and 13.
 #[unsafe(no_mangle)]
 pub extern "C" fn eq_reference(
     raw: EqRecord,
@@ -73,9 +74,10 @@ pub extern "C" fn eq_reference(
     input: &[f32],
     output: &mut [f32],
     marks: &mut [u8],
+    numbers: &mut [u8],
 ) -> EqReply
-    ensures { PromisedRaw eq_reference raw weights.old window.old input.now output.old marks.old
-        (block result weights.new window.new output.new marks.new) }
+    ensures { PromisedRaw eq_reference raw weights.old window.old input.now output.old marks.old numbers.old
+        (block result weights.new window.new output.new marks.new numbers.new) }
 {
-    capi::eq_reference(raw, weights, window, input, output, marks)
+    capi::eq_reference(raw, weights, window, input, output, marks, numbers)
 }

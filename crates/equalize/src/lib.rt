@@ -68,19 +68,20 @@ fn equalize_paths(
     input: &[f32],
     output: &mut [f32],
     marks: &mut [u8],
+    numbers: &mut [u8],
 ) -> EqualizeState
-    requires { ServedBlock (equalizer state weights.old window.old) input.now output.old marks.old }
+    requires { ServedBlock (equalizer state weights.old window.old) input.now output.old marks.old numbers.old }
     ensures { Ran (run_def (equalizer state weights.old window.old) (samples_of input.now))
-        (equalizer result weights.new window.new) output.new marks.new }
+        (equalizer result weights.new window.new) output.new marks.new numbers.new }
 {
     if by_runs(weights.len() / 2, state.params.feedback_taps, marks.len()) {
-        run_linear::equalize_linear(state, weights, window, input, output, marks)
+        run_linear::equalize_linear(state, weights, window, input, output, marks, numbers)
     } else {
-        plain::block(state, weights, window, input, output, marks)
+        plain::block(state, weights, window, input, output, marks, numbers)
     }
 }
 
-// A block of samples, or a refusal (1, 8, 9, 10) that leaves all as it was. Same answer as `reference::equalize`.
+// A block of samples, or a refusal (1, 8, 9, 10, 13) that leaves all as it was. Same answer as `reference::equalize`.
 #[tactic(auto, unfolding(definition::specs::Calls::equalize_def), using(crate::proofs::Calls::call_shaped, crate::proofs::Calls::call_served))]
 pub fn equalize(
     state: EqualizeState,
@@ -89,9 +90,10 @@ pub fn equalize(
     input: &[f32],
     output: &mut [f32],
     marks: &mut [u8],
+    numbers: &mut [u8],
 ) -> Equalized
-    ensures { Promised (by_taps (equalizer state weights.old window.old)) (equalizer state weights.old window.old) input.now output.old marks.old
-        (answered result weights.new window.new output.new marks.new) }
+    ensures { Promised (by_taps (equalizer state weights.old window.old)) (equalizer state weights.old window.old) input.now output.old marks.old numbers.old
+        (answered result weights.new window.new output.new marks.new numbers.new) }
 {
     if let Err(e) = record_verdict::verdict(
         state,
@@ -100,8 +102,9 @@ pub fn equalize(
         input.len(),
         output.len(),
         marks.len(),
+        numbers.len(),
     ) {
         return Equalized::refused(state, e);
     }
-    Equalized::served(equalize_paths(state, weights, window, input, output, marks))
+    Equalized::served(equalize_paths(state, weights, window, input, output, marks, numbers))
 }

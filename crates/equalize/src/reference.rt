@@ -14,9 +14,10 @@ pub fn equalize(
     input: &[f32],
     output: &mut [f32],
     marks: &mut [u8],
+    numbers: &mut [u8],
 ) -> Equalized
-    ensures { Promised plain (equalizer state weights.old window.old) input.now output.old marks.old
-        (answered result weights.new window.new output.new marks.new) }
+    ensures { Promised plain (equalizer state weights.old window.old) input.now output.old marks.old numbers.old
+        (answered result weights.new window.new output.new marks.new numbers.new) }
 {
     if let Err(e) = record_verdict::verdict(
         state,
@@ -25,8 +26,9 @@ pub fn equalize(
         input.len(),
         output.len(),
         marks.len(),
+        numbers.len(),
     ) {
         return Equalized::refused(state, e);
     }
-    Equalized::served(plain::block(state, weights, window, input, output, marks))
+    Equalized::served(plain::block(state, weights, window, input, output, marks, numbers))
 }

@@ -41,7 +41,7 @@ stores n m f wr wi xr xi w₀ w₁ w h₀ h₁ h e a b c d = record {
 }
 
 -- ---- the call
-module _ (s : EqualizeState) (w h xs ys : List Float) (ms : List ℕ) (n m : ℕ) (q : Asked s w h xs ys ms n m) where
+module _ (s : EqualizeState) (w h xs ys : List Float) (ms ns : List ℕ) (n m : ℕ) (q : Asked s w h xs ys ms ns n m) where
   accepted : Accepted (equalizer s w h)
   accepted = accepted_is (equalizer s w h) q.shaped.accepted
 
@@ -57,10 +57,10 @@ module _ (s : EqualizeState) (w h xs ys : List Float) (ms : List ℕ) (n m : ℕ
   pub asked_r4 : rule_r4 s ≡ true
   asked_r4 = accepted_r4 (equalizer s w h) q.shaped.accepted
 
-pub call_is : (s : EqualizeState) (w h xs ys₀ : List Float) (ms₀ : List ℕ) (n m : ℕ) (g : Shape) (limit : List Float) (a : Arrays) (wr wi xr xi sq ys : List Float) (ms : List ℕ) (r : EqualizeState) (w' h' : List Float)
-    → Asked s w h xs ys₀ ms₀ n m → Formed n m g → Limits limit 0 0 n × Limits limit 72 g.front g.m → Loads n g.m w h a → AllRuns s g n limit a xs (arrays wr wi xr xi sq) ys ms r
-    → Stores n g.m wr wi xr xi w h w' h' → Ran (run_def (equalizer s w h) (samples_of xs)) (equalizer r w' h') ys ms
-call_is s w h xs ys₀ ms₀ n m g limit a wr wi xr xi sq ys ms r w' h' q f l o c t =
+pub call_is : (s : EqualizeState) (w h xs ys₀ : List Float) (ms₀ ns₀ : List ℕ) (n m : ℕ) (g : Shape) (limit : List Float) (a : Arrays) (wr wi xr xi sq ys : List Float) (ms ns : List ℕ) (r : EqualizeState) (w' h' : List Float)
+    → Asked s w h xs ys₀ ms₀ ns₀ n m → Formed n m g → Limits limit 0 0 n × Limits limit 72 g.front g.m → Loads n g.m w h a → AllRuns s g n limit a xs (arrays wr wi xr xi sq) ys ms ns r
+    → Stores n g.m wr wi xr xi w h w' h' → Ran (run_def (equalizer s w h) (samples_of xs)) (equalizer r w' h') ys ms ns
+call_is s w h xs ys₀ ms₀ ns₀ n m g limit a wr wi xr xi sq ys ms ns r w' h' q f l o c t =
     let e = f.back_is in
     let set : Setting g n limit = record {
       shaped = subst (λ (k : ℕ). LaneCounts n k g.lanes g.more g.quads g.mquads) (sym e) f.shaped;
@@ -72,6 +72,6 @@ call_is s w h xs ys₀ ms₀ n m g limit a wr wi xr xi sq ys ms r w' h' q f l o 
     let ok = q.shaped.accepted in
     let hold = o.loaded s ok (sym q.forth) (sym q.back ∙ sym e) in
     let z = c.after w h ok set hold in
-    let long = asked_long s w h xs ys₀ ms₀ n m q g f in
+    let long = asked_long s w h xs ys₀ ms₀ ns₀ n m q g f in
     let back = t.stored sq (equalizer r z.weights z.window) z.holds (long.0 ∙ sym z.holds.weights.taps) (long.1 ∙ sym z.holds.past.taps) in
-    record { left = rw (back.0, back.1) z.ran.left; out = z.ran.out; marks = z.ran.marks }
+    record { left = rw (back.0, back.1) z.ran.left; out = z.ran.out; marks = z.ran.marks; numbers = z.ran.numbers }

@@ -12,9 +12,9 @@ use Rattle.run_samples.specs.Sample.{Setting}
 use Rattle.run_samples.specs.Run.{After}
 
 -- all runs of a block
-pub record AllRuns (s : EqualizeState) (g : Shape) (n : ℕ) (limit : List Float) (a : Arrays) (xs : List Float) (a' : Arrays) (ys' : List Float) (ms' : List ℕ) (r : EqualizeState) : Type 0 where
+pub record AllRuns (s : EqualizeState) (g : Shape) (n : ℕ) (limit : List Float) (a : Arrays) (xs : List Float) (a' : Arrays) (ys' : List Float) (ms' ns' : List ℕ) (r : EqualizeState) : Type 0 where
   pub after : (w h : List Float) → accepted_def (equalizer s w h) ≡ true → Setting g n limit → Holds n g.m 64 a (equalizer s w h)
-      → After n g.m 64 (equalizer s w h) xs ys' ms' a' r
+      → After n g.m 64 (equalizer s w h) xs ys' ms' ns' a' r
 
 pub record Empty (a : Arrays) : Type 0 where
   pub wr : a.wr ≡ replicate 144 zero32
@@ -32,7 +32,7 @@ pub record Stores (n m : ℕ) (wr wi xr xi w₀ h₀ w h : List Float) : Type 0 
   pub stored : (sq : List Float) (q : Equalizer) → Holds n m 64 (arrays wr wi xr xi sq) q → length w₀ ≡ length q.weights → length h₀ ≡ length q.window → (w ≡ q.weights) × (h ≡ q.window)
 
 -- a served call of n forward and m feedback taps
-pub record Asked (s : EqualizeState) (w h xs ys : List Float) (ms : List ℕ) (n m : ℕ) : Type 0 where
-  pub shaped : ServedBlock (equalizer s w h) xs ys ms
+pub record Asked (s : EqualizeState) (w h xs ys : List Float) (ms ns : List ℕ) (n m : ℕ) : Type 0 where
+  pub shaped : ServedBlock (equalizer s w h) xs ys ms ns
   pub forth : n ≡ forward (equalizer s w h)
   pub back : m ≡ feedback (equalizer s w h)

@@ -16,7 +16,7 @@ use lanes_prepare::Ahead;
 use run_samples::Call;
 use types::EqualizeState;
 
-// All runs of a block. By a place: behind `chunks_mut` a proof knows no element of output and marks.
+// All runs of a block. By a place: behind `chunks_mut` a proof knows no element of output, marks and numbers.
 #[tactic(auto, using(crate::proofs::BlockLoop::loop_none, crate::proofs::BlockLoop::loop_all))]
 fn linear_runs(
     state: EqualizeState,
@@ -26,16 +26,19 @@ fn linear_runs(
     input: &[f32],
     output: &mut [f32],
     marks: &mut [u8],
+    numbers: &mut [u8],
 ) -> EqualizeState
-    requires input_len { SameSamples input.now output.old marks.old }
+    requires input_len { SameSamples input.now output.old marks.old numbers.old }
     requires state_value { rule_r4 state ≡ true }
-    ensures { AllRuns state call.now.shape call.now.n call.now.limit (arrays_of w.old h.old) input.now (arrays_of w.new h.new) output.new marks.new result }
+    ensures { AllRuns state call.now.shape call.now.n call.now.limit (arrays_of w.old h.old) input.now (arrays_of w.new h.new) output.new marks.new numbers.new result }
 {
     let mut ahead = Ahead::ZERO;
     let mut s = state;
     for i in (0..marks.len()).step_by(RUN) {
         let e = (i + RUN).min(marks.len());
-        s = run_one::run(s, call, w, h, &mut ahead, input, output, marks, i, e);
+        s = run_one::run(
+            s, call, w, h, &mut ahead, input, output, marks, numbers, i, e,
+        );
     }
     s
 }
@@ -98,12 +101,13 @@ pub fn linear_state(
     input: &[f32],
     output: &mut [f32],
     marks: &mut [u8],
+    numbers: &mut [u8],
     n: usize,
     m: usize,
 ) -> EqualizeState
-    requires { Asked state weights.old window.old input.now output.old marks.old n m }
+    requires { Asked state weights.old window.old input.now output.old marks.old numbers.old n m }
     ensures { Ran (run_def (equalizer state weights.old window.old) (samples_of input.now))
-        (equalizer result weights.new window.new) output.new marks.new }
+        (equalizer result weights.new window.new) output.new marks.new numbers.new }
 {
     let shape = shape_of(n, m);
     let call = Call {
@@ -115,7 +119,7 @@ pub fn linear_state(
     let mut h = Window::ZERO;
     load_linear(&call, weights, window, &mut w, &mut h);
     #[tactic(auto, using(crate::proofs::Call::asked_r4))]
-    let s = linear_runs(state, &call, &mut w, &mut h, input, output, marks);
+    let s = linear_runs(state, &call, &mut w, &mut h, input, output, marks, numbers);
     store_linear(&call, weights, window, &w, &h);
     s
 }

@@ -15,12 +15,13 @@ pub fn equalize_linear(
     input: &[f32],
     output: &mut [f32],
     marks: &mut [u8],
+    numbers: &mut [u8],
 ) -> EqualizeState
-    requires { ServedBlock (equalizer state weights.old window.old) input.now output.old marks.old }
+    requires { ServedBlock (equalizer state weights.old window.old) input.now output.old marks.old numbers.old }
     ensures { Ran (run_def (equalizer state weights.old window.old) (samples_of input.now))
-        (equalizer result weights.new window.new) output.new marks.new }
+        (equalizer result weights.new window.new) output.new marks.new numbers.new }
 {
     let m = state.params.feedback_taps;
     let n = state.taps(weights);
-    run_block::linear_state(state, weights, window, input, output, marks, n, m)
+    run_block::linear_state(state, weights, window, input, output, marks, numbers, n, m)
 }

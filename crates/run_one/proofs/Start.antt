@@ -37,8 +37,8 @@ prepared s n from xs xr xi xr' xi' q₀ q p₀ ps ss l e b p z = record {
   sizes = sized_from s ps ss from (64 - length xs / 2) l z;
 }
 
-module _ (s : EqualizeState) (g : Shape) (n : ℕ) (limit wr wi xr xi sq xr1 xi1 sq1 ps ss xs : List Float) (a' : Arrays) (ypart : List Float) (mpart : List ℕ) (r : EqualizeState)
-    (begin : Prepared s n xs xr xi sq xr1 xi1 sq1 ps ss) (runs : Runs s g limit (arrays wr wi xr1 xi1 sq1) ps ss xs a' ypart mpart r) where
+module _ (s : EqualizeState) (g : Shape) (n : ℕ) (limit wr wi xr xi sq xr1 xi1 sq1 ps ss xs : List Float) (a' : Arrays) (ypart : List Float) (mpart npart : List ℕ) (r : EqualizeState)
+    (begin : Prepared s n xs xr xi sq xr1 xi1 sq1 ps ss) (runs : Runs s g limit (arrays wr wi xr1 xi1 sq1) ps ss xs a' ypart mpart npart r) where
   ready : (w h : List Float) → n ≤ 63 → length xs ≤ 128 → Setting g n limit → Holds n g.m 64 (arrays wr wi xr xi sq) (equalizer s w h) → RunReady s g n limit (arrays wr wi xr1 xi1 sq1) ps ss xs w h
   ready w h ln most set hold = record {
     setting = set;
@@ -50,7 +50,7 @@ module _ (s : EqualizeState) (g : Shape) (n : ℕ) (limit wr wi xr xi sq xr1 xi1
 
   after : (w h : List Float) → n ≤ 63 → g.m ≤ 63 → length xs ≤ 128 → accepted_def (equalizer s w h) ≡ true → Setting g n limit → Holds n g.m 64 (arrays wr wi xr xi sq) (equalizer s w h)
       → (xr'' xi'' sq'' : List Float) → Finished n g.m (64 - length mpart) a'.xr a'.xi a'.q xr'' xi'' sq''
-      → After n g.m 64 (equalizer s w h) xs ypart mpart (arrays a'.wr a'.wi xr'' xi'' sq'') r
+      → After n g.m 64 (equalizer s w h) xs ypart mpart npart (arrays a'.wr a'.wi xr'' xi'' sq'') r
   after w h ln lm most ok set hold xr'' xi'' sq'' e =
       let z = runs.after n w h ok (ready w h ln most set hold) in
       record {
@@ -61,13 +61,13 @@ module _ (s : EqualizeState) (g : Shape) (n : ℕ) (limit wr wi xr xi sq xr1 xi1
             e.xr_forth e.xi_forth e.xr_back e.xi_back e.sq_back;
       }
 
-pub whole_run : (s : EqualizeState) (g : Shape) (n : ℕ) (limit wr wi xr xi sq xr1 xi1 sq1 ps ss xs ys : List Float) (ms : List ℕ) (i e : ℕ) (a' : Arrays) (ypart : List Float) (mpart : List ℕ) (r : EqualizeState)
+pub whole_run : (s : EqualizeState) (g : Shape) (n : ℕ) (limit wr wi xr xi sq xr1 xi1 sq1 ps ss xs ys : List Float) (ms ns : List ℕ) (i e : ℕ) (a' : Arrays) (ypart : List Float) (mpart npart : List ℕ) (r : EqualizeState)
     (xr'' xi'' sq'' : List Float) → i ≤ e → e ≤ i + 64 → e ≤ length ms → length xs ≡ 2 * length ms → n ≤ 63
     → Prepared s n (mid_of (2 * i) (2 * e - 2 * i) xs) xr xi sq xr1 xi1 sq1 ps ss
-    → Runs s g limit (arrays wr wi xr1 xi1 sq1) ps ss (mid_of (2 * i) (2 * e - 2 * i) xs) a' ypart mpart r
+    → Runs s g limit (arrays wr wi xr1 xi1 sq1) ps ss (mid_of (2 * i) (2 * e - 2 * i) xs) a' ypart mpart npart r
     → Finished n g.m (64 - (e - i)) a'.xr a'.xi a'.q xr'' xi'' sq''
-    → WholeRun s g n limit (arrays wr wi xr xi sq) xs ys ms i e (arrays a'.wr a'.wi xr'' xi'' sq'') (put_mid (2 * i) (2 * e - 2 * i) ys ypart) (put_mid i (e - i) ms mpart) r
-whole_run s g n limit wr wi xr xi sq xr1 xi1 sq1 ps ss xs ys ms i e a' ypart mpart r xr'' xi'' sq'' a b l input ln begin runs ends =
+    → WholeRun s g n limit (arrays wr wi xr xi sq) xs ys ms ns i e (arrays a'.wr a'.wi xr'' xi'' sq'') (put_mid (2 * i) (2 * e - 2 * i) ys ypart) (put_mid i (e - i) ms mpart) (put_mid i (e - i) ns npart) r
+whole_run s g n limit wr wi xr xi sq xr1 xi1 sq1 ps ss xs ys ms ns i e a' ypart mpart npart r xr'' xi'' sq'' a b l input ln begin runs ends =
     let x = mid_of (2 * i) (2 * e - 2 * i) xs in
     let lx : length x ≡ 2 * e - 2 * i = mid_len (2 * i) (2 * e) xs (omega (arith, l, input)) in
     let len : length mpart ≡ e - i = omega (arith, runs.input, lx) in
@@ -77,8 +77,10 @@ whole_run s g n limit wr wi xr xi sq xr1 xi1 sq1 ps ss xs ys ms i e a' ypart mpa
       part_done = λ w h ok set hold. record {
         part = ypart;
         part_marks = mpart;
-        after = after s g n limit wr wi xr xi sq xr1 xi1 sq1 ps ss x a' ypart mpart r begin runs w h ln g.fits.back (omega (arith, lx, a, b)) ok set hold xr'' xi'' sq'' ends';
+        part_numbers = npart;
+        after = after s g n limit wr wi xr xi sq xr1 xi1 sq1 ps ss x a' ypart mpart npart r begin runs w h ln g.fits.back (omega (arith, lx, a, b)) ok set hold xr'' xi'' sq'' ends';
         out = refl;
         marks = refl;
+        numbers = refl;
       };
     }

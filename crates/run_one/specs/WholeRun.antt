@@ -34,15 +34,17 @@ pub record Finished (n m p : ℕ) (xr xi sq xr' xi' sq' : List Float) : Type 0 w
   pub xi_back : Moved (p + 152) 216 m xi_mid xi'
   pub sq_back : Moved (p + 152) 216 m sq sq'
 
--- the samples i .. e of a block: their symbols and marks in the places of theirs
-pub record PartDone (n m : ℕ) (q : Equalizer) (xs ys : List Float) (ms : List ℕ) (i e : ℕ) (a : Arrays) (ys' : List Float) (ms' : List ℕ) (s : EqualizeState) : Type 0 where
+-- the samples i .. e of a block: their symbols, marks and numbers in the places of theirs
+pub record PartDone (n m : ℕ) (q : Equalizer) (xs ys : List Float) (ms ns : List ℕ) (i e : ℕ) (a : Arrays) (ys' : List Float) (ms' ns' : List ℕ) (s : EqualizeState) : Type 0 where
   pub part : List Float
   pub part_marks : List ℕ
-  pub after : After n m 64 q (mid_of (2 * i) (2 * e - 2 * i) xs) part part_marks a s
+  pub part_numbers : List ℕ
+  pub after : After n m 64 q (mid_of (2 * i) (2 * e - 2 * i) xs) part part_marks part_numbers a s
   pub out : ys' ≡ put_mid (2 * i) (2 * e - 2 * i) ys part
   pub marks : ms' ≡ put_mid i (e - i) ms part_marks
+  pub numbers : ns' ≡ put_mid i (e - i) ns part_numbers
 
-pub record WholeRun (s : EqualizeState) (g : Shape) (n : ℕ) (limit : List Float) (a : Arrays) (xs ys : List Float) (ms : List ℕ) (i e : ℕ) (a' : Arrays) (ys' : List Float) (ms' : List ℕ) (r : EqualizeState) : Type 0 where
+pub record WholeRun (s : EqualizeState) (g : Shape) (n : ℕ) (limit : List Float) (a : Arrays) (xs ys : List Float) (ms ns : List ℕ) (i e : ℕ) (a' : Arrays) (ys' : List Float) (ms' ns' : List ℕ) (r : EqualizeState) : Type 0 where
   pub counts : rule_r4 r ≡ true
   pub part_done : (w h : List Float) → accepted_def (equalizer s w h) ≡ true → Setting g n limit → Holds n g.m 64 a (equalizer s w h)
-      → PartDone n g.m (equalizer s w h) xs ys ms i e a' ys' ms' r
+      → PartDone n g.m (equalizer s w h) xs ys ms ns i e a' ys' ms' ns' r

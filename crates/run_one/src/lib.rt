@@ -48,14 +48,15 @@ pub fn run(
     input: &[f32],
     output: &mut [f32],
     marks: &mut [u8],
+    numbers: &mut [u8],
     i: usize,
     e: usize,
 ) -> EqualizeState
-    requires input_len { SameSamples input.now output.old marks.old }
+    requires input_len { SameSamples input.now output.old marks.old numbers.old }
     requires i_le_e { (i ≤ e) × ((e ≤ i + 64) × (e ≤ length marks.old)) }
     requires state_value { rule_r4 state ≡ true }
-    ensures { WholeRun state call.now.shape call.now.n call.now.limit (arrays_of w.old h.old) input.now output.old marks.old i e
-        (arrays_of w.new h.new) output.new marks.new result }
+    ensures { WholeRun state call.now.shape call.now.n call.now.limit (arrays_of w.old h.old) input.now output.old marks.old numbers.old i e
+        (arrays_of w.new h.new) output.new marks.new numbers.new result }
 {
     let a = 2 * i;
     let b = 2 * e;
@@ -69,6 +70,7 @@ pub fn run(
         &input[a..b],
         &mut output[a..b],
         &mut marks[i..e],
+        &mut numbers[i..e],
     );
     finish_run(call, h, e - i);
     r

@@ -6,7 +6,7 @@ use Rattle.run_block.proofs.linear_runs.Given as goal
 
 abbrev pub invariant-loop-i : goal.invariant-loop-i
 invariant-loop-i l =
-    BlockLoop l.initial.s l.call.shape l.call.n l.call.limit (arrays_of l.initial.w l.initial.h) l.input (arrays_of l.w l.h) l.output l.marks l.s l.i
+    BlockLoop l.initial.s l.call.shape l.call.n l.call.limit (arrays_of l.initial.w l.initial.h) l.input (arrays_of l.w l.h) l.output l.marks l.numbers l.s l.i
 
 abbrev pub decreases-loop-i : goal.decreases-loop-i
 decreases-loop-i l = length l.marks - l.i

@@ -6,4 +6,4 @@ use Rattle.run_one.proofs.run.Goals as goal
 pub returns : goal.returns
 returns c =
     let asked = c.requires in
-    whole_run _ _ _ _ _ _ _ _ _ _ _ _ _ _ _ _ _ _ _ _ _ _ _ _ _ _ asked.i_le_e.0 asked.i_le_e.1.0 asked.i_le_e.1.1 asked.input_len.0 c.args.call.now.most c.prepare_run.ensures c.run-r.ensures c.finish_run.ensures
+    whole_run _ _ _ _ _ _ _ _ _ _ _ _ _ _ _ _ _ _ _ _ _ _ _ _ _ _ _ _ asked.i_le_e.0 asked.i_le_e.1.0 asked.i_le_e.1.1 asked.input_len.0 c.args.call.now.most c.prepare_run.ensures c.run-r.ensures c.finish_run.ensures
