@@ -14,17 +14,17 @@ use Rattle.types.specs.Bits.{zero32}
 use Rattle.types.specs.Numbers.{mark_number}
 use Rattle.definition.specs.Floats.{finite_c}
 use Rattle.definition.specs.Slices.{zeros}
-use Rattle.definition.specs.Sample.{Equalizer, Out, feedback, forward, with_mode}
+use Rattle.definition.specs.Sample.{Equalizer, Out, feedback, forward, no_number, with_mode}
 use Rattle.definition.specs.Rules.{accepted_def}
-use Rattle.definition.specs.Run.{Run, ahead, run_def, written, symbol_parts, mark_byte}
+use Rattle.definition.specs.Run.{Run, ahead, run_def, written, symbol_parts, mark_byte, number_byte}
 use Rattle.definition_laws.proofs.Accept.{accepted_is, shape}
 use Rattle.definition_laws.proofs.Runs.{run_append, written_append}
 use Rattle.std.proofs.lemmas.Bool.{and_parts, and_from}
-use Rattle.demands.specs.Traces.{Observed, Follow, samples, symbols, marks, left}
+use Rattle.demands.specs.Traces.{Observed, Follow, samples, symbols, marks, numbers, left}
 use Rattle.demands.specs.Cut.{OneRun, Same}
 use Rattle.demands.specs.Blanks.{all_blank, Blanks, blank_out, count_after, mode_at, AfterBlanks, BlankRun}
 use Rattle.demands.specs.Demand3.{Dropout, Dropped, Recovered, Demand3}
-use Rattle.demands.proofs.Cut.{calls_are_one_run, follow_front}
+use Rattle.demands.proofs.Cut.{calls_are_one_run, same_run, follow_front}
 use Rattle.demands.proofs.Blanks.{blanks_claim, clear_claim}
 
 -- ---- the first k of n blanks
@@ -40,16 +40,16 @@ blanks_take (suc k) (x ∷ xs) b =
 first_blanks : (k n : ℕ) (xs : List C32) → k ≤ n → Blanks n xs → Blanks k (take k xs)
 first_blanks k n xs h b = record { many = length-take-le k xs (omega (arith, b.many)); each = blanks_take k xs b.each }
 
--- the symbols and marks of n blanks
+-- what n blanks put out: their symbols, and bytes of which each gives b
 zero_floats : (n : ℕ) → written symbol_parts (replicate n blank_out) ≡ zeros (2 * n)
 unfolding written
 zero_floats zero = refl
 zero_floats (suc n) = let e : 2 * suc n ≡ suc (suc (2 * n)) = omega arith in rw e (ap (λ (l : List Float). zero32 ∷ zero32 ∷ l) (zero_floats n))
 
-blank_marks : (n : ℕ) → written mark_byte (replicate n blank_out) ≡ replicate n (mark_number Blank)
+blank_bytes : (f : Out → List ℕ) (b : ℕ) → f blank_out ≡ b ∷ [] → (n : ℕ) → written f (replicate n blank_out) ≡ replicate n b
 unfolding written
-blank_marks zero = refl
-blank_marks (suc n) = ap (λ (l : List ℕ). mark_number Blank ∷ l) (blank_marks n)
+blank_bytes f b e zero = refl
+blank_bytes f b e (suc n) = rw e (ap (λ (l : List ℕ). b ∷ l) (blank_bytes f b e n))
 
 -- ---- one list
 
@@ -64,15 +64,13 @@ module _ (p : Equalizer) (os : List Observed) (n : ℕ) (bs stream : List C32) (
   one-run : OneRun p os
   one-run = calls_are_one_run p os f
 
-  symbols-are : symbols os ≡ zeros (2 * n) ++ written symbol_parts (run_def (run_def p bs).equalizer stream).outs
-  symbols-are =
-      one-run.symbols ∙ ap (λ (r : Run). written symbol_parts r.outs) whole ∙ written_append symbol_parts (replicate n blank_out) (run_def (run_def p bs).equalizer stream).outs
-      ∙ ap (λ (l : List Float). l ++ written symbol_parts (run_def (run_def p bs).equalizer stream).outs) (zero_floats n)
-
-  marks_are : marks os ≡ replicate n (mark_number Blank) ++ written mark_byte (run_def (run_def p bs).equalizer stream).outs
-  marks_are =
-      one-run.marks ∙ ap (λ (r : Run). written mark_byte r.outs) whole ∙ written_append mark_byte (replicate n blank_out) (run_def (run_def p bs).equalizer stream).outs
-      ∙ ap (λ (l : List ℕ). l ++ written mark_byte (run_def (run_def p bs).equalizer stream).outs) (blank_marks n)
+  -- what f gives of the calls' samples begins with z, which it gives of the blanks
+  first : {A : Type 0} (f : Out → List A) (l z : List A) (m : ℕ) → l ≡ written f (run_def p (samples os)).outs → written f (replicate n blank_out) ≡ z → length z ≡ m → take m l ≡ z
+  first f l z m r e k =
+      let rest = (run_def (run_def p bs).equalizer stream).outs in
+      ap (take m)
+      (r ∙ ap (λ (t : Run). written f t.outs) whole ∙ written_append f (replicate n blank_out) rest ∙ ap (λ (l : List _). l ++ written f rest) e)
+      ∙ take_at z (written f rest) m k
 
   cleared : (run_def p bs).equalizer.window ≡ zeros (length p.window)
   cleared = after.after.window ∙ clear_claim p n acc enough
@@ -85,8 +83,9 @@ module _ (p : Equalizer) (os : List Observed) (n : ℕ) (bs stream : List C32) (
   dropped : Dropped p os n bs stream
   dropped = record {
     run = one-run;
-    first_symbols = ap (take (2 * n)) symbols-are ∙ take_at (zeros (2 * n)) _ (2 * n) (length-replicate (2 * n) _);
-    first_marks = ap (take n) marks_are ∙ take_at (replicate n (mark_number Blank)) _ n (length-replicate n _);
+    first_symbols = first symbol_parts (symbols os) (zeros (2 * n)) (2 * n) one-run.symbols (zero_floats n) (length-replicate (2 * n) _);
+    first_marks = first mark_byte (marks os) (replicate n (mark_number Blank)) n one-run.marks (blank_bytes mark_byte (mark_number Blank) refl n) (length-replicate n _);
+    first_numbers = first number_byte (numbers os) (replicate n no_number) n one-run.numbers (blank_bytes number_byte no_number refl n) (length-replicate n _);
     each = λ k h. blanks_claim p k (take k bs) acc (first_blanks k n bs h b);
     between = at-end;
     clear = cleared;
@@ -125,11 +124,7 @@ module _ (p q : Equalizer) (os ps : List Observed) (n : ℕ) (bs es stream : Lis
       whole p os n bs stream d.accepted_p d.follow_p d.blanks_p d.enough d.samples_p
       ∙ ap (λ (r : Equalizer). ahead (replicate n blank_out) (run_def r stream)) met
       ∙ sym (whole q ps n es stream d.accepted_q d.follow_q d.blanks_q enough-q d.samples_q) in
-      record {
-        symbols = x.symbols ∙ ap (λ (t : Run). written symbol_parts t.outs) r ∙ sym y.symbols;
-        marks = x.marks ∙ ap (λ (t : Run). written mark_byte t.outs) r ∙ sym y.marks;
-        left = x.left ∙ ap (λ (t : Run). t.equalizer) r ∙ sym y.left;
-      }
+      same_run p q os ps x y r
 
   recovered : Recovered p q os ps n bs es stream
   recovered = record {

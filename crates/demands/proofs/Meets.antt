@@ -30,13 +30,13 @@ start m v = record {
   window = replicate (2 * (3 + m)) (f32 v);
 }
 
--- an output of n f32, and marks of b bytes
-unfoldable handed : Path → List Float → ℕ → ℕ → Call
-handed p xs n b = record { path = p; input = xs; output = replicate n nan; marks = replicate b 7 }
+-- an output of n f32, marks of b bytes, numbers of c
+unfoldable handed : Path → List Float → ℕ → ℕ → ℕ → Call
+handed p xs n b c = record { path = p; input = xs; output = replicate n nan; marks = replicate b 7; numbers = replicate c 8 }
 
 unfoldable call : Path → List Float → Call
 unfolding handed
-call p xs = handed p xs (length xs) (complex_length xs)
+call p xs = handed p xs (length xs) (complex_length xs) (complex_length xs)
 
 -- what is seen of a list of calls that each keeps its promise
 unfoldable observe : Equalizer → List Call → List Observed
@@ -54,17 +54,18 @@ blanks2 = inf false ∷ zero32 ∷ zero32 ∷ nan ∷ nan ∷ f32 0x4000_0000 �
 unfoldable stream : List Float
 stream = f32 0x3f00_0000 ∷ f32 0x3f80_0000 ∷ nan ∷ zero32 ∷ []
 
--- Refused are a call with an odd input, one with an output of 2 samples for 1, and one with no mark for 1. The call before the last takes the third
--- blank and the stream.
+-- Refused are a call with an odd input, one with an output of 2 samples for 1, one with no mark for 1, and one with no number for 1. The call before
+-- the last two takes the third blank and the stream.
 unfoldable calls1 : Path → List Float → List Call
 unfolding handed call blanks1
 calls1 p xs =
-    handed plain (zero32 ∷ []) 0 0
+    handed plain (zero32 ∷ []) 0 0 0
     ∷ call p (take 4 blanks1)
-    ∷ handed p (zero32 ∷ zero32 ∷ []) 4 1
+    ∷ handed p (zero32 ∷ zero32 ∷ []) 4 1 1
     ∷ call plain []
     ∷ call p (nan ∷ nan ∷ xs)
-    ∷ handed p (zero32 ∷ zero32 ∷ []) 2 0
+    ∷ handed p (zero32 ∷ zero32 ∷ []) 2 0 1
+    ∷ handed p (zero32 ∷ zero32 ∷ []) 2 1 0
     ∷ []
 
 unfoldable calls2 : List Float → List Call
@@ -82,7 +83,7 @@ seen2 m xs = observe (start m 0xbf00_0000) (calls2 xs)
 -- ---- what the calls of the first list reply: a refusal's number, and the lengths that 9 and 10 tell, expected and got
 
 abbrev Replies : List Observed → Type 0
-Replies os = map (λ o. o.answer.reply) os ≡ (1 ∷ []) ∷ [] ∷ (9 ∷ 1 ∷ 2 ∷ []) ∷ [] ∷ [] ∷ (10 ∷ 1 ∷ 0 ∷ []) ∷ []
+Replies os = map (λ o. o.answer.reply) os ≡ (1 ∷ []) ∷ [] ∷ (9 ∷ 1 ∷ 2 ∷ []) ∷ [] ∷ [] ∷ (10 ∷ 1 ∷ 0 ∷ []) ∷ (13 ∷ []) ∷ []
 
 replies_joint : Replies (seen1 joint 1 stream)
 unfolding computed settings_of state_of seen1 stream
@@ -111,7 +112,7 @@ meets_joint = record {
   accepted_q = refl;
   states = refl;
   weights = refl;
-  follow_p = next refl refl refl (next refl refl refl (next refl refl refl (next refl refl refl (next refl refl refl (next refl refl refl none)))));
+  follow_p = next refl refl refl (next refl refl refl (next refl refl refl (next refl refl refl (next refl refl refl (next refl refl refl (next refl refl refl none))))));
   follow_q = next refl refl refl none;
   blanks_p = record { many = refl; each = refl };
   blanks_q = record { many = refl; each = refl };
@@ -130,7 +131,7 @@ meets_quick = record {
   accepted_q = refl;
   states = refl;
   weights = refl;
-  follow_p = next refl refl refl (next refl refl refl (next refl refl refl (next refl refl refl (next refl refl refl (next refl refl refl none)))));
+  follow_p = next refl refl refl (next refl refl refl (next refl refl refl (next refl refl refl (next refl refl refl (next refl refl refl (next refl refl refl none))))));
   follow_q = next refl refl refl none;
   blanks_p = record { many = refl; each = refl };
   blanks_q = record { many = refl; each = refl };
@@ -149,7 +150,7 @@ meets_empty = record {
   accepted_q = refl;
   states = refl;
   weights = refl;
-  follow_p = next refl refl refl (next refl refl refl (next refl refl refl (next refl refl refl (next refl refl refl (next refl refl refl none)))));
+  follow_p = next refl refl refl (next refl refl refl (next refl refl refl (next refl refl refl (next refl refl refl (next refl refl refl (next refl refl refl none))))));
   follow_q = next refl refl refl none;
   blanks_p = record { many = refl; each = refl };
   blanks_q = record { many = refl; each = refl };

@@ -7,7 +7,7 @@ use Rattle.types.specs.declared.EqualizeState.{EqualizeState}
 use Rattle.types.specs.declared.Mark.TheVariants.{Blank}
 use Rattle.definition.specs.Floats.{zero_c, finite_c}
 use Rattle.definition.specs.Slices.{zeros}
-use Rattle.definition.specs.Sample.{Equalizer, Out, feedback, forward, never_switch, with_mode}
+use Rattle.definition.specs.Sample.{Equalizer, Out, feedback, forward, never_switch, no_number, with_mode}
 use Rattle.definition.specs.Rules.{accepted_def}
 use Rattle.definition.specs.Run.{Run, run_def}
 
@@ -19,9 +19,9 @@ pub record Blanks (n : ℕ) (xs : List C32) : Type 0 where
   pub many : length xs ≡ n
   pub each : all_blank xs ≡ true
 
--- zero, and the mark blank
+-- zero, the mark blank, and no number
 abbrev pub blank_out : Out
-blank_out = record { symbol = zero_c; mark = Blank }
+blank_out = record { symbol = zero_c; mark = Blank; number = no_number }
 
 -- count after k blanks: the smaller of its start plus k and `cma_symbols`, or 0 where `cma_symbols` is 4,294,967,295
 abbrev pub count_after : EqualizeState → ℕ → ℕ

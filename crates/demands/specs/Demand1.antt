@@ -6,7 +6,7 @@ use Rattle.types.specs.declared.C32.{C32}
 use Rattle.types.specs.declared.EqParams.{EqParams}
 use Rattle.types.specs.declared.EqualizeState.{EqualizeState}
 use Rattle.types.specs.declared.Error.{Error}
-use Rattle.types.specs.declared.Error.TheVariants.{Odd, Output, Marks}
+use Rattle.types.specs.declared.Error.TheVariants.{Odd, Output, Marks, Numbers}
 use Rattle.types.specs.Numbers.{error_number, mark_number}
 use Rattle.definition.specs.Refusals.{Outcome, error_values, test, first_of}
 use Rattle.definition.specs.Floats.{zero_c}
@@ -16,36 +16,42 @@ use Rattle.definition.specs.Run.{run_def, written, mark_byte}
 use Rattle.demands.specs.Marks.{mark_given}
 use Rattle.definition.specs.Calls.{even, Answer, equalize_def, new_def, reset_def, with_params, with_mus, set_mu_cma_def, set_mu_dd_def, held_freq, set_frequency_def}
 
--- served: one symbol and one mark per sample, and what is left is accepted
+-- served: one symbol, one mark and one number per sample, and what is left is accepted
 pub record ServedCall (xs : List Float) (a : Answer) : Type 0 where
   pub outcome : a.outcome ≡ (Ok tt)
   pub accepted : accepted_def a.equalizer ≡ true
   pub symbols : length a.out ≡ length xs
   pub marks : length a.marks ≡ length xs / 2
+  pub numbers : length a.numbers ≡ length xs / 2
 
--- refused: the number, its lengths, and record, weights, window, output and marks as they came
-pub record RefusedCall (q : Equalizer) (ys : List Float) (ms : List ℕ) (a : Answer) : Type 0 where
+-- refused: the error's number, its lengths, and record, weights, window, output, marks and numbers as they came
+pub record RefusedCall (q : Equalizer) (ys : List Float) (ms ns : List ℕ) (a : Answer) : Type 0 where
   pub error : Error
   pub outcome : a.outcome ≡ Err error
   pub reply : a.reply ≡ error_number error ∷ error_values error
   pub equalizer : a.equalizer ≡ q
   pub out : a.out ≡ ys
   pub marks : a.marks ≡ ms
+  pub numbers : a.numbers ≡ ns
 
 abbrev pub Demand1 : Type 0
-Demand1 = (q : Equalizer) (xs ys : List Float) (ms : List ℕ) → ServedCall xs (equalize_def q xs ys ms) ⊎ RefusedCall q ys ms (equalize_def q xs ys ms)
+Demand1 =
+    (q : Equalizer) (xs ys : List Float) (ms ns : List ℕ) → ServedCall xs (equalize_def q xs ys ms ns) ⊎ RefusedCall q ys ms ns (equalize_def q xs ys ms ns)
 
--- From an accepted start the lengths alone decide: 1, 9, 10 or served. So a served block's record is not refused by the next call with 8.
-unfoldable pub lengths_verdict : List Float → List Float → List ℕ → Outcome
-lengths_verdict xs ys ms =
+-- From an accepted start the lengths alone decide: 1, 9, 10, 13, "tried after 10", or served. So a served block's record is not refused by the next
+-- call with 8.
+unfoldable pub lengths_verdict : List Float → List Float → List ℕ → List ℕ → Outcome
+lengths_verdict xs ys ms ns =
     first_of
     (test (even (length xs) && even (length ys)) Odd
     ∷ test (eqb (length ys / 2) (length xs / 2)) (Output (length xs / 2) (length ys / 2))
     ∷ test (eqb (length ms) (length xs / 2)) (Marks (length xs / 2) (length ms))
+    ∷ test (eqb (length ns) (length xs / 2)) Numbers
     ∷ [])
 
 abbrev pub ByLengths : Type 0
-ByLengths = (q : Equalizer) (xs ys : List Float) (ms : List ℕ) → accepted_def q ≡ true → (equalize_def q xs ys ms).outcome ≡ lengths_verdict xs ys ms
+ByLengths =
+    (q : Equalizer) (xs ys : List Float) (ms ns : List ℕ) → accepted_def q ≡ true → (equalize_def q xs ys ms ns).outcome ≡ lengths_verdict xs ys ms ns
 
 -- The mark of sample i goes by that sample and by y, F and z, which are formed from what the i samples before have left. For every q, accepted or not.
 abbrev pub EveryMark : Type 0

@@ -4,10 +4,10 @@ use Rattle.types.specs.declared.C32.{C32}
 use Rattle.types.specs.declared.Mark.TheVariants.{Blank}
 use Rattle.types.specs.Numbers.{mark_number}
 use Rattle.definition.specs.Slices.{zeros}
-use Rattle.definition.specs.Sample.{Equalizer, feedback, forward}
+use Rattle.definition.specs.Sample.{Equalizer, feedback, forward, no_number}
 use Rattle.definition.specs.Rules.{accepted_def}
 use Rattle.definition.specs.Run.{run_def}
-use Rattle.demands.specs.Traces.{Observed, Follow, samples, symbols, marks, left}
+use Rattle.demands.specs.Traces.{Observed, Follow, samples, symbols, marks, numbers, left}
 use Rattle.demands.specs.Cut.{OneRun, Same}
 use Rattle.demands.specs.Blanks.{Blanks, AfterBlanks, BlankRun}
 
@@ -38,6 +38,8 @@ pub record Dropped (p : Equalizer) (os : List Observed) (n : ℕ) (bs stream : L
   -- "each of these blanks gives zero and the mark blank"
   pub first_symbols : take (2 * n) (symbols os) ≡ zeros (2 * n)
   pub first_marks : take n (marks os) ≡ replicate n (mark_number Blank)
+  -- and no number: "255 where the mark isn't 0"
+  pub first_numbers : take n (numbers os) ≡ replicate n no_number
   -- "and moves only windows, mode and count": after the first k of the blanks, inside a call too
   pub each : (k : ℕ) → k ≤ n → BlankRun p k (run_def p (take k bs))
   -- and wherever a call ends: what the calls before have left, where their samples are the first k blanks
@@ -49,7 +51,7 @@ pub record Recovered (p q : Equalizer) (os ps : List Observed) (n : ℕ) (bs es 
   pub one : Dropped p os n bs stream
   pub other : Dropped q ps n es stream
   -- "all symbols and all marks of the one list, joined, equal those of the other as in 2; and so do the weights, windows and records that the two
-  -- lists leave"
+  -- lists leave"; and "the two lists' numbers, joined, are equal too"
   pub same : Same p q os ps
 
 abbrev pub Demand3 : Type 0
