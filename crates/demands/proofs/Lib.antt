@@ -1,5 +1,7 @@
 -- The proofs of the statements in specs/, and that they are not empty.
 pub mod Marks
+pub mod Belongs
+pub mod Numbers
 pub mod Served
 pub mod Cut
 pub mod Blanks

@@ -1,6 +1,7 @@
 -- What is proved of the definition, as statements to be read on their own. The proofs are in proofs/.
 pub mod Traces
 pub mod Marks
+pub mod Numbers
 pub mod Demand1
 pub mod Cut
 pub mod Blanks
