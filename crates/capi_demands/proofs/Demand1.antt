@@ -34,27 +34,29 @@ handed_over q a = and_from _ _ (known_over q) (subst (λ (p : Equalizer). accept
 
 -- ---- a record of known numbers
 
-module _ (k : Kept) (xs ys : List Float) (ms : List ℕ) where
+module _ (k : Kept) (xs ys : List Float) (ms ns : List ℕ) where
   abbrev answer : Answer
-  answer = equalize_def (equalizer_of k) xs ys ms
+  answer = equalize_def (equalizer_of k) xs ys ms ns
 
-  known-call : known_record k.raw ≡ true → def.ServedCall xs answer ⊎ def.RefusedCall (equalizer_of k) ys ms answer
-      → ServedCall xs (block_out answer) ⊎ RefusedCall k ys ms (block_out answer)
+  known-call : known_record k.raw ≡ true → def.ServedCall xs answer ⊎ def.RefusedCall (equalizer_of k) ys ms ns answer
+      → ServedCall xs (block_out answer) ⊎ RefusedCall k ys ms ns (block_out answer)
   unfolding replied kept_of
   known-call h (inl s) = inl (record {
-    number = ap (λ (l : List ℕ). get_or l 0 0) (reply_is (equalizer_of k) xs ys ms ∙ ap reply_of s.outcome);
+    number = ap (λ (l : List ℕ). get_or l 0 0) (reply_is (equalizer_of k) xs ys ms ns ∙ ap reply_of s.outcome);
     accepted = handed_over answer.equalizer s.accepted;
     symbols = s.symbols;
     marks = s.marks;
+    numbers = s.numbers;
   })
   known-call h (inr r) =
       let same : kept_of answer.equalizer ≡ k = ap kept_of r.equalizer ∙ back k h in
       inr (record {
         error = r.error;
-        reply = (λ i. replied (same i).raw ((reply_is (equalizer_of k) xs ys ms ∙ ap reply_of r.outcome) i));
+        reply = (λ i. replied (same i).raw ((reply_is (equalizer_of k) xs ys ms ns ∙ ap reply_of r.outcome) i));
         left = same;
         out = r.out;
         marks = r.marks;
+        numbers = r.numbers;
       })
 
 -- ---- a record with an unknown number
@@ -64,35 +66,35 @@ unfolding unknown first_of
 unknown_is true = refl
 unknown_is false = refl
 
-unknown_call : (k : Kept) (ys : List Float) (ms : List ℕ) (b : Bool) → RefusedCall k ys ms (block (replied k.raw (unknown b)) k.weights k.window ys ms)
+unknown_call : (k : Kept) (ys : List Float) (ms ns : List ℕ) (b : Bool) → RefusedCall k ys ms ns (block (replied k.raw (unknown b)) k.weights k.window ys ms ns)
 unfolding replied
-unknown_call k ys ms b = record { error = cond b Record Odd; reply = ap (replied k.raw) (unknown_is b); left = refl; out = refl; marks = refl }
+unknown_call k ys ms ns b = record { error = cond b Record Odd; reply = ap (replied k.raw) (unknown_is b); left = refl; out = refl; marks = refl; numbers = refl }
 
 pub demand_1 : Demand1
-demand_1 e k xs ys ms b p = subst (λ (x : Block). ServedCall xs x ⊎ RefusedCall k ys ms x) (sym p) (go (known_record k.raw) refl)
+demand_1 e k xs ys ms ns b p = subst (λ (x : Block). ServedCall xs x ⊎ RefusedCall k ys ms ns x) (sym p) (go (known_record k.raw) refl)
   where
-    go : (t : Bool) → known_record k.raw ≡ t → ServedCall xs (equalize_raw k.raw k.weights k.window xs ys ms) ⊎ RefusedCall k ys ms (equalize_raw k.raw k.weights k.window xs ys ms)
-    go true h = subst (λ (x : Block). ServedCall xs x ⊎ RefusedCall k ys ms x) (sym (known_block k xs ys ms h)) (known-call k xs ys ms h (demand1 (equalizer_of k) xs ys ms))
-    go false h = inr (unfold equalize_raw in (rw h (unknown_call k ys ms _)))
+    go : (t : Bool) → known_record k.raw ≡ t → ServedCall xs (equalize_raw k.raw k.weights k.window xs ys ms ns) ⊎ RefusedCall k ys ms ns (equalize_raw k.raw k.weights k.window xs ys ms ns)
+    go true h = subst (λ (x : Block). ServedCall xs x ⊎ RefusedCall k ys ms ns x) (sym (known_block k xs ys ms ns h)) (known-call k xs ys ms ns h (demand1 (equalizer_of k) xs ys ms ns))
+    go false h = inr (unfold equalize_raw in (rw h (unknown_call k ys ms ns _)))
 
 -- ---- from an accepted start
 
-module _ (k : Kept) (s : Seen) (a : accepted k ≡ true) (e : s.after ≡ block_out (equalize_def (equalizer_of k) s.input s.output s.marks)) where
+module _ (k : Kept) (s : Seen) (a : accepted k ≡ true) (e : s.after ≡ block_out (equalize_def (equalizer_of k) s.input s.output s.marks s.numbers)) where
   number_is : number s ≡ by_lengths_of s
   unfolding replied
   number_is =
       ap (λ (b : Block). b.filter.reply.number) e
-      ∙ ap (λ (l : List ℕ). get_or l 0 0) (reply_is (equalizer_of k) s.input s.output s.marks ∙ ap reply_of (by_lengths (equalizer_of k) s.input s.output s.marks (accepted_part k a)))
+      ∙ ap (λ (l : List ℕ). get_or l 0 0) (reply_is (equalizer_of k) s.input s.output s.marks s.numbers ∙ ap reply_of (by_lengths (equalizer_of k) s.input s.output s.marks s.numbers (accepted_part k a)))
 
   next-accepted : accepted (leaves s.after) ≡ true
-  next-accepted = go (demand_1 s.entry k s.input s.output s.marks s.after (e ∙ sym (known_block k s.input s.output s.marks (known_part k a))))
+  next-accepted = go (demand_1 s.entry k s.input s.output s.marks s.numbers s.after (e ∙ sym (known_block k s.input s.output s.marks s.numbers (known_part k a))))
     where
-      go : ServedCall s.input s.after ⊎ RefusedCall k s.output s.marks s.after → accepted (leaves s.after) ≡ true
+      go : ServedCall s.input s.after ⊎ RefusedCall k s.output s.marks s.numbers s.after → accepted (leaves s.after) ≡ true
       go (inl x) = x.accepted
       go (inr x) = ap accepted x.left ∙ a
 
 pub lengths_decide : ByLengths
 lengths_decide k [] a none = refl
 lengths_decide k (s ∷ ss) a (next b p f) =
-    let e = p ∙ known_block k s.input s.output s.marks (known_part k a) in
+    let e = p ∙ known_block k s.input s.output s.marks s.numbers (known_part k a) in
     λ i. number_is k s a e i ∷ lengths_decide (leaves s.after) ss (next-accepted k s a e) f i

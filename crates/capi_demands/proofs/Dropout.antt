@@ -37,6 +37,7 @@ module _ (k : Kept) (ss : List Seen) (n : ℕ) (bs stream : List C32) (h : known
         run = calls_are_one_run k ss h f;
         first_symbols = ap (take (2 * n)) t.symbols ∙ d.first_symbols;
         first_marks = ap (take n) t.marks ∙ d.first_marks;
+        first_numbers = ap (take n) t.numbers ∙ d.first_numbers;
         between = at-end;
         clear = unfold equalizer_of in d.clear;
       }
@@ -68,6 +69,7 @@ demand_3 j k ss ts n bs es stream d =
       same = record {
         symbols = s.symbols ∙ r.same.symbols ∙ sym t.symbols;
         marks = s.marks ∙ r.same.marks ∙ sym t.marks;
+        numbers = s.numbers ∙ r.same.numbers ∙ sym t.numbers;
         left = s.left ∙ ap kept_of r.same.left ∙ sym t.left;
       };
     }

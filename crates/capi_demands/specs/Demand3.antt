@@ -4,10 +4,10 @@ use Rattle.types.specs.declared.C32.{C32}
 use Rattle.types.specs.declared.Mark.TheVariants.{Blank}
 use Rattle.types.specs.Numbers.{mark_number}
 use Rattle.definition.specs.Slices.{zeros}
-use Rattle.definition.specs.Sample.{feedback, forward}
+use Rattle.definition.specs.Sample.{feedback, forward, no_number}
 use Rattle.definition.specs.Run.{run_def}
 use Rattle.demands.specs.Blanks.{Blanks, AfterBlanks}
-use Rattle.capi_demands.specs.Traces.{Kept, equalizer_of, accepted, Seen, Follow, samples, symbols, marks, left}
+use Rattle.capi_demands.specs.Traces.{Kept, equalizer_of, accepted, Seen, Follow, samples, symbols, marks, numbers, left}
 use Rattle.capi_demands.specs.Cut.{OneRun, Same}
 
 pub record Dropout (j k : Kept) (ss ts : List Seen) (n : ℕ) (bs es stream : List C32) : Type 0 where
@@ -26,9 +26,10 @@ pub record Dropout (j k : Kept) (ss ts : List Seen) (n : ℕ) (bs es stream : Li
 
 pub record Dropped (k : Kept) (ss : List Seen) (n : ℕ) (bs : List C32) : Type 0 where
   pub run : OneRun k ss
-  -- each of the blanks gives zero and the mark blank
+  -- each of the blanks gives zero, the mark blank and no number
   pub first_symbols : take (2 * n) (symbols ss) ≡ zeros (2 * n)
   pub first_marks : take n (marks ss) ≡ replicate n (mark_number Blank)
+  pub first_numbers : take n (numbers ss) ≡ replicate n no_number
   -- and moves only windows, mode and count: wherever a call ends
   pub between : (i : ℕ) (front back : List Seen) → ss ≡ front ++ back → i ≤ n → samples front ≡ take i bs → AfterBlanks (equalizer_of k) i (equalizer_of (left k front))
   -- no old echo: after the n blanks the window is all +0

@@ -37,13 +37,14 @@ pub record Seen : Type 0 where
   pub input : List Float
   pub output : List Float
   pub marks : List ℕ
+  pub numbers : List ℕ
   pub after : Block
 
 -- each call gets what the last left, by `eq_equalize` or by `eq_reference`
 pub data Follow : Kept → List Seen → Type 0 where
   none : {k : Kept} → Follow k []
   next : {k : Kept} {s : Seen} {ss : List Seen} → s.before ≡ k
-      → PromisedRaw s.entry k.raw k.weights k.window s.input s.output s.marks s.after
+      → PromisedRaw s.entry k.raw k.weights k.window s.input s.output s.marks s.numbers s.after
       → Follow (leaves s.after) ss → Follow k (s ∷ ss)
 
 -- the number of the reply: 0 where the call was served
@@ -53,7 +54,7 @@ number s = s.after.filter.reply.number
 abbrev pub if_served : {A : Type 0} → ℕ → List A → List A
 if_served n l = cond (eqb n 0) l []
 
--- the samples, symbols and marks of the served calls, joined in order; a refused call adds none
+-- the samples, symbols, marks and numbers of the served calls, joined in order; a refused call adds none
 unfoldable pub samples : List Seen → List C32
 samples [] = []
 samples (s ∷ ss) = if_served (number s) (samples_of s.input) ++ samples ss
@@ -65,6 +66,10 @@ symbols (s ∷ ss) = if_served (number s) s.after.out ++ symbols ss
 unfoldable pub marks : List Seen → List ℕ
 marks [] = []
 marks (s ∷ ss) = if_served (number s) s.after.marks ++ marks ss
+
+unfoldable pub numbers : List Seen → List ℕ
+numbers [] = []
+numbers (s ∷ ss) = if_served (number s) s.after.numbers ++ numbers ss
 
 -- what a list leaves its caller with
 unfoldable pub left : Kept → List Seen → Kept
