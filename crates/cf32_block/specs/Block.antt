@@ -17,10 +17,10 @@ bytes_answer a xs out = record { answer = a; read = xs; out = out }
 abbrev pub bytes_of : Answer → List ℕ → List ℕ
 bytes_of a out = cond (is_ok a.outcome) (write_over a.out out) out
 
--- bs are the bytes of the input; x and y are what the slices lent for the floats of input and output hold before the call, out and ms what those of the
--- output's bytes and of the marks do.
-unfoldable pub block_def : Equalizer → List ℕ → List Float → List Float → List ℕ → List ℕ → BytesAnswer
-block_def q bs x y out ms =
+-- bs are the bytes of the input; x and y are what the slices lent for the floats of input and output hold before the call, out, ms and ns what those of the
+-- output's bytes, of the marks and of the numbers do.
+unfoldable pub block_def : Equalizer → List ℕ → List Float → List Float → List ℕ → List ℕ → List ℕ → BytesAnswer
+block_def q bs x y out ms ns =
     let xs = read_into bs x in
-    let a = equalize_def q xs y ms in
+    let a = equalize_def q xs y ms ns in
     bytes_answer a xs (bytes_of a out)

@@ -40,15 +40,16 @@ impl Path {
         input: &[f32],
         output: &mut [f32],
         marks: &mut [u8],
+        numbers: &mut [u8],
     ) -> Equalized
-        ensures { answered result weights.new window.new output.new marks.new
-            ≡ equalize_def (equalizer state weights.old window.old) input.now output.old marks.old }
+        ensures { answered result weights.new window.new output.new marks.new numbers.new
+            ≡ equalize_def (equalizer state weights.old window.old) input.now output.old marks.old numbers.old }
     {
         match self {
             Path::Plain => {
-                equalize::reference::equalize(state, weights, window, input, output, marks)
+                equalize::reference::equalize(state, weights, window, input, output, marks, numbers)
             }
-            Path::Fast => equalize::equalize(state, weights, window, input, output, marks),
+            Path::Fast => equalize::equalize(state, weights, window, input, output, marks, numbers),
         }
     }
 }
@@ -66,12 +67,13 @@ pub fn block(
     y: &mut [f32],
     output: &mut [u8],
     marks: &mut [u8],
+    numbers: &mut [u8],
 ) -> Equalized
-    ensures { bytes_answer (answered result weights.new window.new y.new marks.new) x.new output.new
-        ≡ block_def (equalizer state weights.old window.old) input.now x.old y.old output.old marks.old }
+    ensures { bytes_answer (answered result weights.new window.new y.new marks.new numbers.new) x.new output.new
+        ≡ block_def (equalizer state weights.old window.old) input.now x.old y.old output.old marks.old numbers.old }
 {
     cf32::floats(input, x);
-    let e = path.equalize(state, weights, window, x, y, marks);
+    let e = path.equalize(state, weights, window, x, y, marks, numbers);
     if e.outcome.is_ok() {
         cf32::bytes(y, output);
     }
