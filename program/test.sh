@@ -60,7 +60,7 @@ none() {
 "$recording" make samples marked || exit 2
 head -c 3200 samples > short                # 400 samples
 head -c 804 short > cut                     # 100 and a half
-"$program" --in short --out good --marks good.marks 2> said || { cat said; exit 2; }
+"$program" --in short --out good --marks good.marks --numbers good.numbers 2> said || { cat said; exit 2; }
 
 # ---- files
 
@@ -79,6 +79,18 @@ run 1 --in short --out x --marks ./x
 says './x and x are one file; nothing was written'
 none x x.part
 
+run 1 --in short --out x --numbers x
+says 'x and x are one file; nothing was written'
+none x x.part
+
+run 1 --in short --out y --marks x --numbers ./x
+says './x and x are one file; nothing was written'
+none x x.part y y.part
+
+run 1 --in short --out y --numbers x --curve ./x
+says './x and x are one file; nothing was written'
+none x x.part y y.part
+
 echo old > a
 ln a b
 run 1 --in short --out a --curve b
@@ -94,8 +106,20 @@ run 1 --in short --out r.part --marks r
 says 'r.part is what r is written as until it is whole; nothing was written'
 none r r.part r.part.part
 
+run 1 --in short --out r --numbers r.part
+says 'r.part is what r is written as until it is whole; nothing was written'
+none r r.part r.part.part
+
+run 1 --in short --out x --marks r.part --numbers r
+says 'r.part is what r is written as until it is whole; nothing was written'
+none r r.part r.part.part x x.part
+
 cp short x
 run 1 --in x --marks x --out y
+says 'x is the input, which this output would replace; nothing was written'
+same x short
+none y y.part x.part
+run 1 --in x --numbers x --out y
 says 'x is the input, which this output would replace; nothing was written'
 same x short
 none y y.part x.part
@@ -117,6 +141,9 @@ says 'cannot write pipe: it is a named pipe, for which standard output serves; n
 none pipe.part
 ln -s pipe link
 run 1 --in short --marks link --out x
+says 'cannot write link: it is a named pipe, for which standard output serves; nothing was written'
+none x x.part link.part
+run 1 --in short --numbers link --out x
 says 'cannot write link: it is a named pipe, for which standard output serves; nothing was written'
 none x x.part link.part
 rm pipe link
@@ -174,11 +201,18 @@ none x.part
 rm x
 
 echo old > old
-run 0 --in short --out old --marks old.marks
+run 0 --in short --out old --marks old.marks --numbers old.numbers
 same old good
 same old.marks good.marks
-none old.part old.marks.part
-rm old old.marks
+same old.numbers good.numbers
+none old.part old.marks.part old.numbers.part
+rm old old.marks old.numbers
+
+echo old > x
+run 0 --in short --out y --numbers x
+same x good.numbers
+none x.part y.part
+rm x y
 
 ln -s elsewhere link
 run 0 --in short --out link
@@ -201,15 +235,19 @@ run 1 --in short --out absent/x
 says 'cannot make absent/x.part: there is no such file or folder; nothing was written'
 
 echo before > x
-run 1 --in cut --out x --marks x.marks
+run 1 --in cut --out x --marks x.marks --numbers x.numbers
 says '100 samples: 100 heard, 0 blank, 0 spilled, 0 silent, 0 off scale'
 says 'the input is truncated: 4 bytes are left over, and a sample has 8'
 says 'x is from before this run and was left as it is; what this run served is in x.part'
 says 'what was served is in x.marks.part'
+says 'what was served is in x.numbers.part'
 last 'FAILED: the input was not served whole'
 [ "$(cat x)" = before ] || wrong 'the old file was changed'
 cmp -s -n 800 x.part good || wrong 'x.part has not what was served'
-rm x x.part x.marks.part
+head -c 100 good.numbers > served
+same x.numbers.part served
+none x.marks x.numbers
+rm x x.part x.marks.part x.numbers.part served
 
 rows=$((rows + 1))
 row='equalizer --text > /dev/full'
@@ -235,6 +273,16 @@ none x
 rm x.part
 
 rows=$((rows + 1))
+row='equalizer --numbers x with a limit on the size of files'
+(ulimit -f 1; trap '' XFSZ; exec "$program" --in samples --numbers x > /dev/null 2> said)
+[ $? -eq 1 ] || wrong 'the status is not 1'
+says 'writing x.part failed: the file would be too large'
+says 'what was served is in x.part'
+last 'FAILED: the input was not served whole'
+none x
+rm x.part
+
+rows=$((rows + 1))
 row='equalizer < a closed input'
 "$program" --out x 2> said <&-
 [ $? -eq 1 ] || wrong 'the status is not 1'
@@ -248,14 +296,15 @@ says '400 samples: 300 heard, 100 blank, 0 spilled, 0 silent, 0 off scale'
 
 # zeros are silent; (3e38, 3e38) and then (0, 0) give a symbol that is off scale
 head -c 80 /dev/zero > zeros
-run 0 --in zeros --out x --marks x.marks
+run 0 --in zeros --out x --marks x.marks --numbers x.numbers
 says '10 samples: 0 heard, 0 blank, 0 spilled, 10 silent, 0 off scale'
 [ "$(od -An -tu1 x.marks | tr -d ' \n')" = 3333333333 ] || wrong 'not every mark is 3'
+[ "$(od -An -tx1 x.numbers | tr -d ' \n')" = ffffffffffffffffffff ] || wrong 'not every number is 255'
 printf '\346\261\141\177\346\261\141\177\0\0\0\0\0\0\0\0' > large
 run 0 --in large --taps 3 --frequency 0.125 --text
 says '2 samples: 1 heard, 0 blank, 0 spilled, 0 silent, 1 off scale'
-[ "$(tail -n 1 out)" = 'inf 0 4' ] || wrong "the second line is $(tail -n 1 out)"
-rm x x.marks zeros large
+[ "$(tail -n 1 out)" = 'inf 0 4 255' ] || wrong "the second line is $(tail -n 1 out)"
+rm x x.marks x.numbers zeros large
 
 run 0 --in short --text --out lines
 silent
@@ -314,8 +363,16 @@ same out good
 run 0 --in short --out x --marks -
 same out good.marks
 rm x
+run 0 --in short --out x --numbers -
+same out good.numbers
+rm x
 run 2 --in short --marks -
 says 'two outputs cannot both be standard output; nothing was written'
+run 2 --in short --numbers -
+says 'two outputs cannot both be standard output; nothing was written'
+run 2 --in short --out x --marks - --numbers -
+says 'two outputs cannot both be standard output; nothing was written'
+none x x.part
 
 run 2 --taps 1000
 says '--taps does not take 1000: it takes an odd number from 3 to 63'
@@ -343,6 +400,8 @@ run 2 --path slow
 says '--path does not take slow: it takes plain or fast'
 run 2 --out ''
 says '--out does not take an empty value: it takes the name of a file, or - for standard output'
+run 2 --numbers ''
+says '--numbers does not take an empty value: it takes the name of a file, or - for standard output'
 run 2 --taps
 says '--taps takes a value; --help says which'
 run 2 --text=yes
@@ -364,9 +423,12 @@ while IFS= read -r line; do
     options=${line#"$sum"}
     for way in '' '--block 1' '--block 4095 --path plain' '--block 7' '--path plain'; do
         # shellcheck disable=SC2086
-        run 0 --in samples --out symbols --marks marks $options $way
+        run 0 --in samples --out symbols --marks marks --numbers numbers $options $way
         [ "$(sha256sum < symbols)" = "$sum  -" ] || wrong "the symbols are not the Rust's"
         same marks marked
+        # shellcheck disable=SC2086
+        "$recording" numbers symbols marked numbered $options || wrong 'the numbers cannot be worked out'
+        same numbers numbered
         says '13000 samples: 12828 heard, 172 blank, 0 spilled, 0 silent, 0 off scale'
         # shellcheck disable=SC2086
         cat samples | "$program" $options $way > symbols 2> said || wrong 'it fails from a pipe'
@@ -375,7 +437,7 @@ while IFS= read -r line; do
     done
     # shellcheck disable=SC2086
     run 0 --in samples --text --block 1000 $options
-    "$recording" text symbols marked < out || wrong 'the text is not the symbols'
+    "$recording" text symbols marked numbered < out || wrong 'the text is not the symbols'
 done < "$here/runs.txt"
 
 # from a pipe a block is there once it is served

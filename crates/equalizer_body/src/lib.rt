@@ -114,7 +114,12 @@ impl Run<'_> {
                 b"symbols go to --out FILE or standard output, not to a terminal; see --help and --text",
             );
         }
-        let outputs = [Some(options.output), options.marks, options.curve];
+        let outputs = [
+            Some(options.output),
+            options.marks,
+            options.numbers,
+            options.curve,
+        ];
         if outputs
             .iter()
             .filter(|name| **name == Some(Name::Standard))

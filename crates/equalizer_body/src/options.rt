@@ -24,6 +24,7 @@ pub(crate) struct Options {
     pub(crate) input: Name,
     pub(crate) output: Name,
     pub(crate) marks: Option<Name>,
+    pub(crate) numbers: Option<Name>,
     pub(crate) curve: Option<Name>,
 }
 
@@ -33,6 +34,7 @@ enum Setting {
     Input,
     Output,
     Marks,
+    Numbers,
     Curve,
     MuCma,
     MuDd,
@@ -73,6 +75,7 @@ fn named(name: &[u8]) -> Option<Kind> {
         ),
         b"--out" => Kind::Valued(Setting::Output, OUTPUT),
         b"--marks" => Kind::Valued(Setting::Marks, OUTPUT),
+        b"--numbers" => Kind::Valued(Setting::Numbers, OUTPUT),
         b"--curve" => Kind::Valued(Setting::Curve, OUTPUT),
         b"--mu-cma" => Kind::Valued(Setting::MuCma, STEP_SIZE),
         b"--mu-dd" => Kind::Valued(Setting::MuDd, STEP_SIZE),
@@ -156,6 +159,7 @@ impl Default for Options {
             input: Name::Standard,
             output: Name::Standard,
             marks: None,
+            numbers: None,
             curve: None,
         }
     }
@@ -171,6 +175,7 @@ impl Options {
             Setting::Input => self.input = name_of(t, v),
             Setting::Output => self.output = name_of(t, v),
             Setting::Marks => self.marks = Some(name_of(t, v)),
+            Setting::Numbers => self.numbers = Some(name_of(t, v)),
             Setting::Curve => self.curve = Some(name_of(t, v)),
             Setting::MuCma => self.params.mu_cma = narrow_of(t)?,
             Setting::MuDd => self.params.mu_dd = narrow_of(t)?,

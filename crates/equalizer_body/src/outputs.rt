@@ -9,6 +9,7 @@ use program_look::Seen;
 pub(crate) struct Outputs {
     symbols: Option<Output>,
     marks: Option<Output>,
+    numbers: Option<Output>,
     curve: Option<Output>,
 }
 
@@ -27,17 +28,27 @@ impl Outputs {
         }
     }
 
-    // Makes one after the other. Marks and curve do not replace the input.
+    // Makes one after the other. Marks, numbers and curve do not replace the input.
     fn make(&mut self, run: &Run<'_>, input: Seen) -> Result<(), Told> {
         let Run { program, options } = *run;
         self.symbols = program.output(Some(options.output), input, &[])?;
         program.not_input(options.marks, input)?;
         self.marks = program.output(options.marks, input, &[self.symbols.as_ref()])?;
+        program.not_input(options.numbers, input)?;
+        self.numbers = program.output(
+            options.numbers,
+            input,
+            &[self.symbols.as_ref(), self.marks.as_ref()],
+        )?;
         program.not_input(options.curve, input)?;
         self.curve = program.output(
             options.curve,
             input,
-            &[self.symbols.as_ref(), self.marks.as_ref()],
+            &[
+                self.symbols.as_ref(),
+                self.marks.as_ref(),
+                self.numbers.as_ref(),
+            ],
         )?;
         Ok(())
     }
@@ -48,25 +59,27 @@ impl Outputs {
             at_hand: input.is_at_hand(rt),
             output: self.symbols.as_ref().map(|o| o.sink(rt)),
             marks: self.marks.as_ref().map(|o| o.sink(rt)),
+            numbers: self.numbers.as_ref().map(|o| o.sink(rt)),
             curve: self.curve.as_ref().map(|o| o.sink(rt)),
         }
     }
 
-    fn into_array(self) -> [Option<Output>; 3] {
+    fn into_array(self) -> [Option<Output>; 4] {
         let Outputs {
             symbols,
             marks,
+            numbers,
             curve,
         } = self;
-        [symbols, marks, curve]
+        [symbols, marks, numbers, curve]
     }
 
     // Ends the outputs of a run that served its whole input, each of them, whatever becomes of the others.
     pub(crate) fn whole(self, p: Program<'_>) -> Result<(), Told> {
-        let [symbols, marks, curve] = self
+        let [symbols, marks, numbers, curve] = self
             .into_array()
             .map(|output| output.map_or(Ok(()), |o| p.whole(o)));
-        symbols.and(marks).and(curve)
+        symbols.and(marks).and(numbers).and(curve)
     }
 
     // Ends those of a run that did not.

@@ -134,6 +134,7 @@ fn trouble(run: &Run<'_>, e: Ending) {
             let name = match target {
                 Target::Symbols => Some(options.output),
                 Target::Marks => options.marks,
+                Target::Numbers => options.numbers,
                 Target::Curve => options.curve,
             };
             program.tell(&files::unwritten(name.unwrap_or(Name::Standard), error));
@@ -174,8 +175,9 @@ A sample that is not finite is a blank, and its symbol is (0, 0).
   --in FILE            samples (standard input)
   --out FILE           symbols (standard output)
   --marks FILE         a byte for each sample: 0 heard, 1 blank, 2 spilled, 3 silent, 4 off scale
+  --numbers FILE       a byte for each sample: the number of the point decided, 255 where the mark is not 0
   --curve FILE         a line for each call: samples so far, mean error, mode
-  --text               symbols as lines `re im mark`
+  --text               symbols as lines `re im mark number`
   --constellation C    bpsk, qpsk, 8psk, 16qam or 64qam (qpsk)
   --taps N             forward taps, odd, 3 to 63 (11)
   --feedback N         feedback taps, 0 to 63 (0)

@@ -55,6 +55,7 @@ pub struct Files<'a> {
     pub at_hand: bool,
     pub output: Option<Sink<'a>>,
     pub marks: Option<Sink<'a>>,
+    pub numbers: Option<Sink<'a>>,
     pub curve: Option<Sink<'a>>,
 }
 
@@ -96,6 +97,7 @@ pub struct Progress {
 pub enum Target {
     Symbols,
     Marks,
+    Numbers,
     Curve,
 }
 
@@ -161,11 +163,13 @@ fn spaced<const N: usize>(p: &mut Page<N>, x: f32) {
     p.words(b" ");
 }
 
-// A symbol and its mark in a line.
-fn line(p: &mut Lines, re: f32, im: f32, mark: u8) {
+// A symbol, its mark and its number in a line.
+fn line(p: &mut Lines, re: f32, im: f32, mark: u8, number: u8) {
     spaced(p, re);
     spaced(p, im);
     p.count(u64::from(mark));
+    p.words(b" ");
+    p.count(u64::from(number));
     p.words(b"\n");
 }
 
@@ -180,11 +184,11 @@ fn turned(to: &mut Sink<'_>, p: &mut Lines) -> io::Result<()> {
 }
 
 // The symbols as lines of text.
-fn lines(mut to: Sink<'_>, y: &[f32], marks: &[u8]) -> io::Result<()> {
+fn lines(mut to: Sink<'_>, y: &[f32], marks: &[u8], numbers: &[u8]) -> io::Result<()> {
     let mut p = Lines::new();
     let (symbols, _) = y.as_chunks::<2>();
-    for ([re, im], mark) in symbols.iter().zip(marks) {
-        line(&mut p, *re, *im, *mark);
+    for (([re, im], mark), number) in symbols.iter().zip(marks).zip(numbers) {
+        line(&mut p, *re, *im, *mark, *number);
         turned(&mut to, &mut p)?;
     }
     to.write_all(p.bytes())
@@ -218,7 +222,7 @@ struct Span {
 }
 
 impl Span {
-    // Where the marks of the samples stand in a room, their floats, and their bytes.
+    // Where the marks of the samples stand in a room, and their numbers; their floats, and their bytes.
     fn marks(self) -> Range<usize>
         ensures { (result.start ≡ self.at) × (result.end ≡ self.to) }
     {
@@ -238,7 +242,7 @@ impl Span {
     }
 }
 
-// The samples that are read at once, as bytes and as floats, and what the calls gave: symbols, as floats and as bytes, and marks.
+// The samples that are read at once, as bytes and as floats, and what the calls gave: symbols, as floats and as bytes, marks and numbers.
 #[derive(Drop)]
 struct Room {
     raw: [u8; BYTES],
@@ -246,6 +250,7 @@ struct Room {
     y: [f32; FLOATS],
     out: [u8; BYTES],
     marks: [u8; MOST],
+    numbers: [u8; MOST],
 }
 
 impl Room {
@@ -264,6 +269,7 @@ impl Room {
             y,
             out,
             marks,
+            numbers,
         } = self;
         let e = cf32_block::block(
             path,
@@ -275,6 +281,7 @@ impl Room {
             &mut y[span.floats()],
             &mut out[span.bytes()],
             &mut marks[span.marks()],
+            &mut numbers[span.marks()],
         );
         e.outcome?;
         Ok(e.state)
@@ -292,6 +299,10 @@ impl Room {
 
     fn marks(&self, span: Span) -> &[u8] {
         &self.marks[span.marks()]
+    }
+
+    fn numbers(&self, span: Span) -> &[u8] {
+        &self.numbers[span.marks()]
     }
 }
 
@@ -328,7 +339,7 @@ impl Stream<'_> {
         Ok(())
     }
 
-    // Equalizes the samples that were read, by calls of a block. By places: a call takes the same part of five arrays.
+    // Equalizes the samples that were read, by calls of a block. By places: a call takes the same part of six arrays.
     fn calls(&mut self, room: &mut Room, read: Span) -> Served {
         let block = self.ways.block();
         for at in (read.at..read.to).step_by(block) {
@@ -355,7 +366,7 @@ impl Stream<'_> {
             return Ok(());
         };
         if self.ways.text {
-            return lines(to, room.symbols(span), room.marks(span));
+            return lines(to, room.symbols(span), room.marks(span), room.numbers(span));
         }
         to.write_all(room.bytes(span))
     }
@@ -367,6 +378,10 @@ impl Stream<'_> {
         if let Some(mut to) = self.files.marks {
             to.write_all(room.marks(span))
                 .map_err(|e| Ending::Unwritten(Target::Marks, e))?;
+        }
+        if let Some(mut to) = self.files.numbers {
+            to.write_all(room.numbers(span))
+                .map_err(|e| Ending::Unwritten(Target::Numbers, e))?;
         }
         Ok(())
     }
@@ -401,6 +416,7 @@ impl Stream<'_> {
             y: [0.0; FLOATS],
             out: [0; BYTES],
             marks: [0; MOST],
+            numbers: [0; MOST],
         };
         for _ in 0..u64::MAX {
             if !self.turn(&mut room, want)? {
