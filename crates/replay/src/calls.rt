@@ -1,7 +1,7 @@
 // Whole equalizing calls. A line holds what the equalizer starts from and the samples of two calls that follow
 // one another; then what the calls give and leave:
 // record, taps n, samples k1 and k2 of the calls, n weights, n window values, k1 + k2 samples;
-// k1 + k2 symbols, their marks, record, n weights, n window values.
+// k1 + k2 symbols, their marks, their numbers, record, n weights, n window values.
 ghost use Rattle.std.specs.Prelude.{◌≡◌, ◌+◌, ◌*◌, ◌≤◌, length};
 ghost use Rattle.replay.specs.declared.words.TheConstants.{MOST_SAMPLES};
 
@@ -18,6 +18,7 @@ struct Case<'a> {
     samples: &'a [u64],
     symbols: &'a [u64],
     marks: &'a [u64],
+    numbers: &'a [u64],
     left: Kept<'a>,
     ghost first: { k1 ≤ k },
     ghost all: { k ≤ MOST_SAMPLES },
@@ -40,6 +41,7 @@ impl Case<'_> {
             samples: w.split_off(..2 * k)?,
             symbols: w.split_off(..2 * k)?,
             marks: w.split_off(..k.div_ceil(8))?,
+            numbers: w.split_off(..k.div_ceil(4))?,
             left: Kept::last(w, n, n)?,
         })
     }
@@ -50,21 +52,43 @@ fn marks_of(word: u64) -> [u8; 8] {
     std::array::from_fn(|i| ((word >> (28 - 4 * i)) % 16) as u8)
 }
 
-// Whether a word holds these marks, at most eight, and 0 in its other digits.
-fn same_word(marks: &[u8], word: u64) -> bool {
-    marks_of(word)
-        .strip_prefix(marks)
-        .is_some_and(|rest| rest.iter().all(|digit| *digit == 0))
+// The numbers of a word, two digits each, in the same order.
+fn numbers_of(word: u64) -> [u8; 4] {
+    std::array::from_fn(|i| ((word >> (24 - 8 * i)) % 256) as u8)
+}
+
+// Whether what a word holds begins with these bytes, and is 0 behind them.
+fn same_word(held: &[u8], bytes: &[u8]) -> bool {
+    held.strip_prefix(bytes)
+        .is_some_and(|rest| rest.iter().all(|byte| *byte == 0))
 }
 
 fn same_marks(marks: &[u8], words: &[u64]) -> bool {
-    marks.chunks(8).zip(words).all(|(m, w)| same_word(m, *w))
+    marks
+        .chunks(8)
+        .zip(words)
+        .all(|(m, w)| same_word(&marks_of(*w), m))
 }
 
-// Whether two calls of `equalize` give and leave what the line says. Output and marks start from what no call writes.
+fn same_numbers(numbers: &[u8], words: &[u64]) -> bool {
+    numbers
+        .chunks(4)
+        .zip(words)
+        .all(|(n, w)| same_word(&numbers_of(*w), n))
+}
+
+// Whether two calls of `equalize` give and leave what the line says. Output, marks and numbers start from what no call writes: a number is below 64, or 255.
 fn replayed<E>(case: Case<'_>, start: EqualizeState, equalize: E) -> bool
 where
-    E: Fn(EqualizeState, &mut [f32], &mut [f32], &[f32], &mut [f32], &mut [u8]) -> Equalized,
+    E: Fn(
+        EqualizeState,
+        &mut [f32],
+        &mut [f32],
+        &[f32],
+        &mut [f32],
+        &mut [u8],
+        &mut [u8],
+    ) -> Equalized,
     requires { E.IsAlwaysCallable equalize }
 {
     let Case { k1, k, .. } = case;
@@ -73,16 +97,19 @@ where
     let input = floats(case.samples);
     let mut output = [f32::NAN; FLOATS];
     let mut marks = [255u8; MOST_SAMPLES];
+    let mut numbers = [254u8; MOST_SAMPLES];
     let (x1, x2) = input.as_slice().split_at(2 * k1);
     let (y1, y2) = output[..2 * k].split_at_mut(2 * k1);
     let (m1, m2) = marks[..k].split_at_mut(k1);
+    let (n1, n2) = numbers[..k].split_at_mut(k1);
     let (w, h) = (weights.as_mut_slice(), window.as_mut_slice());
-    let first = equalize(start, w, h, x1, y1, m1);
-    let last = equalize(first.state, w, h, x2, y2, m2);
+    let first = equalize(start, w, h, x1, y1, m1, n1);
+    let last = equalize(first.state, w, h, x2, y2, m2, n2);
     first.outcome.is_ok()
         & last.outcome.is_ok()
         & same_floats(&output[..2 * k], case.symbols)
         & same_marks(&marks[..k], case.marks)
+        & same_numbers(&numbers[..k], case.numbers)
         & case.left.is(last.state, w, h)
 }
 

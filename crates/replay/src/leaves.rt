@@ -4,7 +4,7 @@ ghost use Rattle.std.specs.Prelude.{◌≤◌, length};
 
 use crate::patterns::{case_of, double, same, single, whole};
 use crate::words::floats;
-use types::{C32, CosSin, EqConstellation, Qam};
+use types::{C32, CosSin, Decided, EqConstellation, Qam};
 
 #[derive(Clone, Copy)]
 pub(crate) struct Leaf {
@@ -102,6 +102,10 @@ fn same_complex(y: C32, re: u64, im: u64) -> bool {
     same(y.re, re) & same(y.im, im)
 }
 
+fn same_decided(d: Decided, re: u64, im: u64, n: u64) -> bool {
+    same_complex(d.point, re, im) & (u64::from(d.number) == n)
+}
+
 fn turn(c: u64, s: u64) -> CosSin {
     CosSin {
         c: single(c),
@@ -120,23 +124,37 @@ pub(crate) fn rotate(w: &[u64]) -> Option<bool> {
 }
 
 pub(crate) fn octant_point(w: &[u64]) -> Option<bool> {
-    let [re, im, y, z]: [u64; 4] = line(w)?;
-    Some(same_complex(costas::octant_point(complex(re, im)), y, z))
+    let [re, im, y, z, n]: [u64; 5] = line(w)?;
+    Some(same_decided(costas::octant_point(complex(re, im)), y, z, n))
+}
+
+// The square constellation of a word.
+fn square(k: u64) -> Option<Qam> {
+    match case_of(k)? {
+        EqConstellation::Qam16 => Some(Qam::Qam16),
+        EqConstellation::Qam64 => Some(Qam::Qam64),
+        _ => None,
+    }
 }
 
 pub(crate) fn decide_level(w: &[u64]) -> Option<bool> {
     let [k, x, level]: [u64; 3] = line(w)?;
-    let qam = match case_of(k) {
-        Some(EqConstellation::Qam16) => Qam::Qam16,
-        Some(EqConstellation::Qam64) => Qam::Qam64,
-        _ => return Some(false),
-    };
-    Some(u64::from(constellation_qam::decide_level(qam, single(x))) == level)
+    Some(square(k).is_some_and(|q| {
+        u64::from(constellation_qam::decide_level(q, single(x))) == level
+    }))
+}
+
+pub(crate) fn decide_symbol(w: &[u64]) -> Option<bool> {
+    let [k, re, im, n]: [u64; 4] = line(w)?;
+    Some(square(k).is_some_and(|q| {
+        u64::from(constellation::decide_symbol(q, complex(re, im))) == n
+    }))
 }
 
 pub(crate) fn decide(w: &[u64]) -> Option<bool> {
-    let [k, re, im, y, z]: [u64; 5] = line(w)?;
-    Some(case_of(k).is_some_and(|k| same_complex(constellation::decide(k, complex(re, im)), y, z)))
+    let [k, re, im, y, z, n]: [u64; 6] = line(w)?;
+    let decided = case_of(k).map(|k| constellation::decide(k, complex(re, im)));
+    Some(decided.is_some_and(|d| same_decided(d, y, z, n)))
 }
 
 pub(crate) fn cma_r2(w: &[u64]) -> Option<bool> {

@@ -46,6 +46,7 @@ fn main(rt: HostRuntime) -> Result<()> {
         Leaf::new("rotate", 0, leaves::rotate),
         Leaf::new("octant_point", 0, leaves::octant_point),
         Leaf::new("decide_level", 0, leaves::decide_level),
+        Leaf::new("decide_symbol", 0, leaves::decide_symbol),
         Leaf::new("decide", 0, leaves::decide),
         Leaf::new("cma_r2", 0, leaves::cma_r2),
         Leaf::new("dot_complex", 0, leaves::dot_complex),

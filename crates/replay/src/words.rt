@@ -15,8 +15,17 @@ pub(crate) type Floats = ArrayVec<f32, FLOATS>;
 // The most taps that a line has.
 pub(crate) const MOST_TAPS: usize = 128;
 
-// The most words are those of two calls: two records, three sizes, weights and window before and after, samples, symbols, marks.
-const MOST_WORDS: usize = 2 * RECORD + 3 + 8 * MOST_TAPS + 2 * FLOATS + MOST_SAMPLES / 8;
+// The longest line, 18,975 words, is that of two calls: two records, three sizes, weights and window before and after, samples, symbols, marks, numbers.
+const LONGEST: usize = 2 * RECORD
+    + 3
+    + 8 * MOST_TAPS
+    + 2 * FLOATS
+    + MOST_SAMPLES / 8
+    + MOST_SAMPLES / 4;
+
+const MOST_WORDS: usize = 19_000;
+
+const _: () = prove!(LONGEST <= MOST_WORDS);
 
 pub(crate) type Words = ArrayVec<u64, MOST_WORDS>;
 
