@@ -25,17 +25,18 @@ fn side(v: f32, a: f32) -> f32
 }
 
 // 1 where v is below zero.
-fn digit(v: f32) -> u8
+fn digit(v: f32) -> u32
     ensures value { result ≡ digitDef (lt v zero32) }
     ensures below { result < 2 }
 {
-    u8::from(v < 0.0)
+    u32::from(v < 0.0)
 }
 
 // The decision: the point of the constellation nearest to y, and its number.
 #[tactic(auto, unfolding(definition::specs::Points::decided, definition::specs::Points::decide, definition::specs::Points::number_of))]
 pub fn decide(k: EqConstellation, y: C32) -> Decided
-    ensures { result ≡ decided k y }
+    ensures value { result ≡ decided k y }
+    ensures below { result.number < 64 }
 {
     match k {
         EqConstellation::Bpsk => Decided {

@@ -71,6 +71,7 @@ impl<const M: usize> Grid<M> {
             (level_on M self.now y.re)
             (level_on M self.now y.im) }
         ensures number { result.number ≡ number_on M self.now y }
+        ensures below { result.number < 64 }
     {
         let re = self.level(y.re);
         let im = self.level(y.im);
@@ -79,7 +80,7 @@ impl<const M: usize> Grid<M> {
                 re: re.value,
                 im: im.value,
             },
-            number: (gray(re.index) * M as u32 + gray(im.index)) as u8,
+            number: gray(re.index) * M as u32 + gray(im.index),
         }
     }
 }
@@ -98,7 +99,8 @@ pub fn decide_level(q: Qam, v: f32) -> u32
 // The point of either nearest to y, and its number.
 #[tactic(auto, unfolding(definition::specs::Points::levels, definition::specs::Points::level_of, definition::specs::Points::level_at, definition::specs::Points::qam_point, definition::specs::Points::symbol_of))]
 pub fn decide_qam(q: Qam, y: C32) -> Decided
-    ensures { result ≡ record { point = qam_point q y; number = symbol_of q y } }
+    ensures value { result ≡ record { point = qam_point q y; number = symbol_of q y } }
+    ensures below { result.number < 64 }
 {
     match q {
         Qam::Qam16 => QAM16.decided(y),
@@ -110,5 +112,5 @@ pub fn decide_qam(q: Qam, y: C32) -> Decided
 pub fn decide_symbol(q: Qam, y: C32) -> u32
     ensures { result ≡ symbol_of q y }
 {
-    u32::from(decide_qam(q, y).number)
+    decide_qam(q, y).number
 }

@@ -57,7 +57,7 @@ fn larger(u: f32, v: f32) -> bool
 
 // The number of the half-open octant, counter-clockwise: the quadrant by the signs, its half by the larger part.
 #[tactic(auto, unfolding(definition::specs::Points::octant))]
-fn octant(y: C32) -> u8
+fn octant(y: C32) -> u32
     ensures value { result ≡ octantDef y }
     ensures below { result < 8 }
 {
@@ -96,11 +96,12 @@ const POINTS8: [C32; 8] = [
 // The 8-PSK point of y's half-open octant, and its number; zero and a NaN give point 0.
 #[tactic(auto, using(crate::proofs::Octants::point_is))]
 pub fn octant_point(y: C32) -> Decided
-    ensures { result ≡ record { point = octant_point y; number = octantDef y } }
+    ensures value { result ≡ record { point = octant_point y; number = octantDef y } }
+    ensures below { result.number < 8 }
 {
     let number = octant(y);
     Decided {
-        point: POINTS8[usize::from(number)],
+        point: POINTS8[number as usize],
         number,
     }
 }

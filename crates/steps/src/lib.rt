@@ -207,25 +207,25 @@ fn told_of(z: C32, number: u8) -> Told
     }
 }
 
-// The running numbers after the symbol z with the decision d, e apart, and what is told of z. A detector value that is not finite counts as 0; where it is
+// The running numbers after the symbol z with the decision d, e apart, and what is told of z, with d's number. A detector value that is not finite counts as 0; where it is
 // finite, z is. Two calls: where p is chosen before one call, the next sample waits for the choice, 3 ns. Out of line a sample takes 3 ns longer.
 #[inline(always)]
 #[tactic(auto, unfolding(definition::specs::Sample::phase_error), using(crate::proofs::OnScale::told_is))]
-fn tracked(s: EqualizeState, z: C32, d: Decided, e: C32) -> Marked
-    ensures track { result.track ≡ track_of s (mse_after s.mse (norm e)) (phase_error z d.point) }
-    ensures told { result.told ≡ live_told z d.number }
+fn tracked(s: EqualizeState, z: C32, d: C32, number: u8, e: C32) -> Marked
+    ensures track { result.track ≡ track_of s (mse_after s.mse (norm e)) (phase_error z d) }
+    ensures told { result.told ≡ live_told z number }
 {
-    let p = complex::times_conj(z, d.point).im;
+    let p = complex::times_conj(z, d).im;
     let mse = mean(s.mse, e);
     if numeric::is_finite(p) {
         Marked {
             track: turned(s, mse, p),
-            told: Told::heard(d.number),
+            told: Told::heard(number),
         }
     } else {
         Marked {
             track: turned(s, mse, 0.0),
-            told: told_of(z, d.number),
+            told: told_of(z, number),
         }
     }
 }
@@ -277,10 +277,10 @@ pub fn step(s: EqualizeState, t: CosSin, y: C32, forward: f32, m: f32) -> Steppe
     ensures { result ≡ step_with s t y forward m }
 {
     let z = costas::derotate(y, t);
-    let d = constellation::decide(s.params.constellation, z);
-    let e = z - d.point;
-    let a = aim_of(s, t, y, d.point, e);
-    let Marked { track, told } = tracked(s, z, d, e);
+    let Decided { point: d, number } = constellation::decide(s.params.constellation, z);
+    let e = z - d;
+    let a = aim_of(s, t, y, d, e);
+    let Marked { track, told } = tracked(s, z, d, number as u8, e);
     if forward == 0.0 {
         let fed = C32::ZERO;
         Stepped {

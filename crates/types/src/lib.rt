@@ -156,7 +156,7 @@ pub enum Mark {
 #[derive(Clone, Copy)]
 pub struct Decided {
     pub point: C32,
-    pub number: u8,
+    pub number: u32,
 }
 
 // The update of the weights: a step with two floats, or none. The specification names this form, in place of an `Option`.
