@@ -3,17 +3,20 @@ use mathlib.Core.Path.{◌≡◌, refl, sym, ap, ◌∙◌, subst}
 use mathlib.Core.Bool.{Bool, true, false, cond}
 use mathlib.Core.List.{List}
 use Prim.Native.Nat.{ℕ, zero, suc, ◌+◌, ◌-◌, ◌*◌, ◌/◌, ◌^◌, ◌≤◌, ◌<◌, min}
-use native.Mathlib.Nat.{le_of_eq, le_antisymm, mul-one, le-min, le-div_iff_mul-le, div-lt_iff_lt-mul, lt_of_le_of_lt, min-le_right, zero-mul, le_of_mul-le-mul_right}
+use native.Mathlib.Nat.{add-zero, le_of_eq, le_antisymm, mul-one, le-min, le-div_iff_mul-le, div-lt_iff_lt-mul, lt_of_le_of_lt, min-le_right, zero-mul, le_of_mul-le-mul_right}
 use native.Mathlib.Omega.{arith}
 use lib.IntN.{pos}
 use lib.Count.{count_trailing_zeros}
-use lib.Dec.{T, eqb, eqb→eq}
+use lib.Dec.{T, eqb, eqb→eq, lit<}
 use lib.ListN.{length, get_or}
 use Rattle.std.proofs.lemmas.List.{get_or_default}
 use lib.Ieee.{Float, nan, inf, fin, binary32, of_int, odd, round, units, size, span, climb, up, down, lt, le, eq}
 use lib.Ieee.Fits.{down_pos, and_r}
 use Rattle.laws.specs.Order.{le_yes, le_no}
-use Rattle.definition.specs.Points.{held_to}
+use Rattle.std.specs.Prelude.{count_by}
+use Rattle.std.specs.List.{range_with_len}
+use Rattle.std.proofs.lemmas.List.Sums.{sum_by-cons}
+use Rattle.definition.specs.Points.{held_to, grays}
 use Rattle.definition.proofs.Held.{held_le}
 
 -- ---- a comparison with the whole number n * 2 ^ j, as a fact on the floor
@@ -99,38 +102,65 @@ less k (fin false m e) = small k (m * up e / down e)
     small : (k q : ℕ) → min (k - 1) q ≡ min (k - 1) (min k q)
     small k q = omega arith
 
--- before the first comparison, and one place more in a loop
-pub none_at : (k : ℕ) (t : Float) → k ≡ 0 → 0 ≡ held_to k t
-none_at k t e = rw e (sym (none t))
-
-pub index_next : (k j n n' : ℕ) (t : Float) → 1 ≤ k → k < 8 → j ≡ k → n' ≡ cond (reached k t) (n + 1) n → n ≡ held_to (k - 1) t → n' ≡ held_to j t
-index_next k j n n' t l h s e p = e ∙ go (reached k t) refl ∙ ap (λ (i : ℕ). held_to i t) (sym s)
+-- one place more
+next : (k n : ℕ) (t : Float) → 1 ≤ k → k < 8 → n ≡ held_to (k - 1) t → n + cond (reached k t) 1 0 ≡ held_to k t
+next k n t l h e = go (reached k t) refl
   where
     went : (q : ℕ) → q ≡ k → n ≡ min (k - 1) q → n + 1 ≡ q
     went q u v = omega arith
 
-    go : (c : Bool) → reached k t ≡ c → cond c (n + 1) n ≡ held_to k t
-    go true d = went (held_to k t) (up_to k t l h d) (p ∙ less k t)
-    go false d = p ∙ sym (same k t l h d)
+    go : (c : Bool) → reached k t ≡ c → n + cond c 1 0 ≡ held_to k t
+    go true p = went (held_to k t) (up_to k t l h p) (e ∙ less k t)
+    go false p = rw (same k t l h p, e) (add-zero (held_to (k - 1) t))
 
-pub index_below : (k n : ℕ) (t : Float) → k < 8 → n ≡ held_to k t → n < 8
-index_below k n t l e = lt_of_le_of_lt (le_of_eq e) (lt_of_le_of_lt (held_le k t) l)
+-- how many of n numbers from a on meet p, of one fewer
+more : (p : ℕ → Bool) (n a j : ℕ) → a + n ≡ j → count_by p (range_with_len a (suc n)) ≡ count_by p (range_with_len a n) + cond (p j) 1 0
+more p zero a j e = ap (λ (i : ℕ). 0 + cond (p i) 1 0) (sym (add-zero a) ∙ e)
+more p (suc n) a j e =
+    add (cond (p a) 1 0) (count_by p (range_with_len (a + 1) (suc n))) (count_by p (range_with_len (a + 1) n)) (cond (p j) 1 0) _ _
+    (sum_by-cons (λ i. cond (p i) 1 0) a (range_with_len (a + 1) (suc n)))
+    (sum_by-cons (λ i. cond (p i) 1 0) a (range_with_len (a + 1) n))
+    (more p n (a + 1) j (omega (arith, e)))
+  where
+    add : (x y z w u v : ℕ) → u ≡ x + y → v ≡ x + z → y ≡ z + w → u ≡ v + w
+    add x y z w u v a b h = omega (arith, a, b, h)
 
-pub nearest_below : (m : ℕ) (t : Float) → 0 < m → m ≤ 8 → held_to (m - 1) t < 8
-nearest_below m t p l = lt_of_le_of_lt (held_le (m - 1) t) (omega arith)
+before : (n : ℕ) → n ≡ suc n - 1
+before n = omega arith
+
+-- as many of the places 1 .. n are reached
+counted : (n : ℕ) (t : Float) → n < 8 → count_by (λ k. reached k t) (range_with_len 1 n) ≡ held_to n t
+counted zero t l = sym (none t)
+counted (suc n) t l = more (λ k. reached k t) n 1 (suc n) (omega arith) ∙ next (suc n) _ t (omega arith) l (counted n t (omega arith) ∙ ap (λ (i : ℕ). held_to i t) (before n))
+
+pub counted_is : (m n : ℕ) (t : Float) → 0 < m → m ≤ 8 → n ≡ count_by (λ k. le (of_int binary32 (pos k)) t) (range_with_len 1 (m - 1)) → n ≡ held_to (m - 1) t
+counted_is m n t p l e = e ∙ counted (m - 1) t (omega arith)
 
 -- ---- what stands at the floor: one place more, one number more
 
 module _ {A : Type 0} (xs : List A) (t : Float) where
   -- before the first comparison
-  pub first_at : (m : ℕ) (y : A) → 0 < length xs → m ≡ 0 → (d : A) → get_or xs 0 y ≡ get_or xs (held_to m t) d
-  first_at m y l s d = get_or_default xs 0 y d l ∙ ap (λ (n : ℕ). get_or xs n d) (sym (none t)) ∙ ap (λ (n : ℕ). get_or xs (held_to n t) d) (sym s)
+  pub first_at : (m : ℕ) (y d : A) → 0 < length xs → m ≡ 0 → get_or xs 0 y ≡ get_or xs (held_to m t) d
+  first_at m y d l s = get_or_default xs 0 y d l ∙ ap (λ (n : ℕ). get_or xs n d) (sym (none t)) ∙ ap (λ (n : ℕ). get_or xs (held_to n t) d) (sym s)
 
   -- after one more
-  pub next_at : (k m : ℕ) (y r r' : A)
-      → 1 ≤ k → k < 8 → k < length xs → m ≡ k → r' ≡ cond (reached k t) (get_or xs k y) r → ((d : A) → r ≡ get_or xs (held_to (k - 1) t) d) → (d : A) → r' ≡ get_or xs (held_to m t) d
-  next_at k m y r r' a b l s e h d = e ∙ go (reached k t) refl ∙ ap (λ (n : ℕ). get_or xs (held_to n t) d) (sym s)
+  pub next_at : (k m : ℕ) (y r r' d : A)
+      → 1 ≤ k → k < 8 → k < length xs → m ≡ k → r' ≡ cond (reached k t) (get_or xs k y) r → r ≡ get_or xs (held_to (k - 1) t) d → r' ≡ get_or xs (held_to m t) d
+  next_at k m y r r' d a b l s e h = e ∙ go (reached k t) refl ∙ ap (λ (n : ℕ). get_or xs (held_to n t) d) (sym s)
     where
       go : (c : Bool) → reached k t ≡ c → cond c (get_or xs k y) r ≡ get_or xs (held_to k t) d
       go true p = get_or_default xs k y d l ∙ ap (λ (n : ℕ). get_or xs n d) (sym (up_to k t a b p))
-      go false p = h d ∙ ap (λ (n : ℕ). get_or xs n d) (sym (same k t a b p))
+      go false p = h ∙ ap (λ (n : ℕ). get_or xs n d) (sym (same k t a b p))
+
+-- ---- the code of a level is one of eight
+
+pub code_below : (n : ℕ) → get_or grays n 0 < 8
+code_below zero = lit< tt
+code_below (suc zero) = lit< tt
+code_below (suc (suc zero)) = lit< tt
+code_below (suc (suc (suc zero))) = lit< tt
+code_below (suc (suc (suc (suc zero)))) = lit< tt
+code_below (suc (suc (suc (suc (suc zero))))) = lit< tt
+code_below (suc (suc (suc (suc (suc (suc zero)))))) = lit< tt
+code_below (suc (suc (suc (suc (suc (suc (suc zero))))))) = lit< tt
+code_below (suc (suc (suc (suc (suc (suc (suc (suc n)))))))) = lit< tt

@@ -1,3 +1,2 @@
--- Levels: floors and levels by a tree of comparisons. Grays: the codes of the levels.
+-- Levels: floors and levels by a tree of comparisons.
 pub mod Levels
-pub mod Grays

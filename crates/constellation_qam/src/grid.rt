@@ -16,6 +16,9 @@ pub const QAM64_LEVELS: [f32; 8] = [
     1.0801234,
 ];
 
+// The Gray code of each level, from the lowest up: two that are neighbours differ in one bit.
+pub(crate) const GRAYS: [u32; 8] = [0, 1, 3, 2, 6, 7, 5, 4];
+
 // M levels a part. A part v lies at v * scale + half on the grid of whole numbers: scale is the root of the mean power over 2, half is M / 2.
 #[derive(Clone, Copy)]
 pub(crate) struct Grid<const M: usize> {

@@ -3,12 +3,15 @@
 
 mod grid;
 
-ghost use Rattle.std.specs.Prelude.{◌≡◌, ◌<◌, cond, get_or};
+ghost use Rattle.std.specs.Prelude.{◌≡◌, ◌-◌, ◌<◌, cond, pos, count_by};
+ghost use Rattle.std.specs.List.{range_with_len};
+ghost use Rattle.std.specs.Float.{binary32};
+ghost use Rattle.std.specs.Float.Ieee.{le, of_int};
 ghost use Rattle.definition.specs.Floats.{◌+f◌, ◌*f◌, complex};
-ghost use Rattle.definition.specs.Points.{level_of, qam_point, grays, symbol_of};
-ghost use Rattle.constellation_qam.specs.Nearest.{nearest, level_on, number_on};
+ghost use Rattle.definition.specs.Points.{level_of, qam_point, symbol_of};
+ghost use Rattle.constellation_qam.specs.Nearest.{nearest, level_on, code_on, number_on};
 
-use crate::grid::{Grid, QAM16, QAM64};
+use crate::grid::{GRAYS, Grid, QAM16, QAM64};
 pub use crate::grid::{QAM16_LEVELS, QAM64_LEVELS};
 use types::{C32, Decided, Qam};
 
@@ -19,21 +22,11 @@ fn pick<A: Copy>(b: bool, yes: A, no: A) -> A
     if b { yes } else { no }
 }
 
-// The level nearest to a part: its index from the lowest up, and its value.
+// The level nearest to a part: its value and its Gray code.
 #[derive(Clone, Copy)]
 struct Level {
-    index: u32,
     value: f32,
-}
-
-// The Gray code of the level i: two levels that are neighbours differ in one bit.
-#[tactic(auto, using(crate::proofs::Grays::gray_below))]
-fn gray(i: u32) -> u32
-    requires { i < 8 }
-    ensures value { result ≡ get_or grays i 0 }
-    ensures below { result < 8 }
-{
-    i ^ (i >> 1)
+    code: u32,
 }
 
 impl<const M: usize> Grid<M> {
@@ -44,28 +37,44 @@ impl<const M: usize> Grid<M> {
         v * self.scale + self.half
     }
 
-    // The level nearest to a part v, by comparisons that select it and are counted: how many of the places 1 .. M - 1 its own reaches is its index, the floor of
-    // its place held to 0 .. M - 1. A NaN gives 0. Not `self.levels[index]`: a sample of 16-QAM took 96 ns so, and 92 by this loop. No `fold`: in this generic
-    // block its closure, which takes a level by its place, would need a `requires` and an `ensures` of its own.
-    #[tactic(auto, using(crate::proofs::Levels::none_at, crate::proofs::Levels::index_next, crate::proofs::Levels::index_below, crate::proofs::Levels::first_at, crate::proofs::Levels::next_at))]
+    // How many of the places 1 .. M - 1 lie at t or below.
+    fn reached(&self, t: f32) -> usize
+        ensures below { result < M }
+        ensures count { result ≡ count_by (λ k. le (of_int binary32 (pos k)) t) (range_with_len 1 (M - 1)) }
+    {
+        (1..M).filter(|k| t >= *k as f32).count()
+    }
+
+    // The index of the level nearest to a part v: how many of the places 1 .. M - 1 its own reaches. That is its floor, held to 0 .. M - 1. A NaN gives 0.
+    #[tactic(auto, using(crate::proofs::Levels::counted_is))]
+    fn index(&self, v: f32) -> usize
+        ensures value { result ≡ nearest M self.now.scale self.now.half v }
+        ensures below { result < M }
+    {
+        self.reached(self.place(v))
+    }
+
+    // The level nearest to a part v, by comparisons that select its value and its code. Not `self.levels[self.index(v)]`: a sample of 16-QAM took 96 ns so, and 92
+    // by this loop. No `fold`: in this generic block its closure, which takes a level by its place, would need a `requires` and an `ensures` of its own.
+    #[tactic(auto, using(crate::proofs::Levels::first_at, crate::proofs::Levels::next_at, crate::proofs::Levels::code_below))]
     fn level(&self, v: f32) -> Level
-        ensures index { result.index ≡ nearest M self.now.scale self.now.half v }
         ensures value { result.value ≡ level_on M self.now v }
+        ensures code { result.code ≡ code_on M self.now v }
+        ensures below { result.code < 8 }
     {
         let t = self.place(v);
-        let mut index = 0;
         let mut value = self.levels[0];
+        let mut code = GRAYS[0];
         for k in 1..M {
             let reached = t >= k as f32;
-            index = pick(reached, index + 1, index);
             value = pick(reached, self.levels[k], value);
+            code = pick(reached, GRAYS[k], code);
         }
-        Level { index, value }
+        Level { value, code }
     }
 
     // The point nearest to y, part by part, and its number: the code of the real part's level in the high bits. No `map`: in this generic block a closure that
     // calls a function would need a contract of its own.
-    #[tactic(auto, using(crate::proofs::Levels::nearest_below))]
     fn decided(&self, y: C32) -> Decided
         ensures point { result.point ≡ complex
             (level_on M self.now y.re)
@@ -80,7 +89,7 @@ impl<const M: usize> Grid<M> {
                 re: re.value,
                 im: im.value,
             },
-            number: gray(re.index) * M as u32 + gray(im.index),
+            number: re.code * M as u32 + im.code,
         }
     }
 }
@@ -91,8 +100,8 @@ pub fn decide_level(q: Qam, v: f32) -> u32
     ensures { result ≡ level_of q v }
 {
     match q {
-        Qam::Qam16 => QAM16.level(v).index,
-        Qam::Qam64 => QAM64.level(v).index,
+        Qam::Qam16 => QAM16.index(v) as u32,
+        Qam::Qam64 => QAM64.index(v) as u32,
     }
 }
 
