@@ -2,7 +2,9 @@
 # make test: the gate. What is proved is what is built: rt proves a crate before it compiles it, and the first time takes some minutes.
 PREFIX = /usr/local
 CC = gcc
-VERSION = 0.1.0
+VERSION = 0.2.0
+# who was linked to another of these must be linked anew: a call has other arguments
+ABI = 0.2
 KIT = rattle-kit-13f logic dac8208d650f15bf
 
 ifneq ($(MAKECMDGOALS),clean)
@@ -26,7 +28,7 @@ build/libequalizer.a: $(CRATES)
 	cp crates/capi_c/out/libcapi_c.a $@
 
 build/libequalizer.so: build/libequalizer.a
-	$(CC) -shared -Wl,-soname,libequalizer.so.0 -Wl,--whole-archive $< -Wl,--no-whole-archive -o $@
+	$(CC) -shared -Wl,-soname,libequalizer.so.$(ABI) -Wl,--whole-archive $< -Wl,--no-whole-archive -o $@
 
 # rt runs what it built, which here says its version
 build/equalizer: $(CRATES)
@@ -45,8 +47,8 @@ install: all
 	install -m 644 include/equalizer.h $(DESTDIR)$(PREFIX)/include/equalizer.h
 	install -m 644 build/libequalizer.a $(DESTDIR)$(PREFIX)/lib/libequalizer.a
 	install -m 755 build/libequalizer.so $(DESTDIR)$(PREFIX)/lib/libequalizer.so.$(VERSION)
-	ln -sf libequalizer.so.$(VERSION) $(DESTDIR)$(PREFIX)/lib/libequalizer.so.0
-	ln -sf libequalizer.so.0 $(DESTDIR)$(PREFIX)/lib/libequalizer.so
+	ln -sf libequalizer.so.$(VERSION) $(DESTDIR)$(PREFIX)/lib/libequalizer.so.$(ABI)
+	ln -sf libequalizer.so.$(ABI) $(DESTDIR)$(PREFIX)/lib/libequalizer.so
 	sed -e 's|@PREFIX@|$(PREFIX)|' -e 's|@VERSION@|$(VERSION)|' program/equalizer.pc.in > $(DESTDIR)$(PREFIX)/lib/pkgconfig/equalizer.pc
 
 test:

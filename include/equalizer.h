@@ -19,9 +19,9 @@
 #include <stdint.h>
 
 #define EQ_VERSION_MAJOR 0
-#define EQ_VERSION_MINOR 1
+#define EQ_VERSION_MINOR 2
 #define EQ_VERSION_PATCH 0
-#define EQ_VERSION "0.1.0"
+#define EQ_VERSION "0.2.0"
 
 #ifdef __cplusplus
 extern "C" {

@@ -347,7 +347,7 @@ cp out help
 run 0 --help
 same out help
 run 0 --version
-[ "$(cat out)" = 'equalizer 0.1.0' ] || wrong 'no version'
+[ "$(cat out)" = 'equalizer 0.2.0' ] || wrong 'no version'
 
 rows=$((rows + 1))
 row='equalizer --help > /dev/full'

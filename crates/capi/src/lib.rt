@@ -24,7 +24,15 @@ fn call<E>(
     equalize: E,
 ) -> EqReply
 where
-    E: FnOnce(EqualizeState, &mut [f32], &mut [f32], &[f32], &mut [f32], &mut [u8], &mut [u8]) -> Equalized,
+    E: FnOnce(
+        EqualizeState,
+        &mut [f32],
+        &mut [f32],
+        &[f32],
+        &mut [f32],
+        &mut [u8],
+        &mut [u8],
+    ) -> Equalized,
     requires callable { E.IsAlwaysCallable equalize }
     requires defined { AsDefined (E.post equalize) }
     ensures { block result weights.new window.new output.new marks.new numbers.new

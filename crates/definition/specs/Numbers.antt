@@ -49,7 +49,7 @@ qam_rows =
 
 -- ---- each number's own point has that number, of all below n
 
-unfoldable pub leads_back : EqConstellation → ℕ → Bool
+unfoldable leads_back : EqConstellation → ℕ → Bool
 leads_back k zero = true
 leads_back k (suc n) = eqb (number_of k (point_of k n)) n && leads_back k n
 

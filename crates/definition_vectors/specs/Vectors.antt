@@ -20,7 +20,7 @@ pub record Held : Type 0 where
   pub weights : List ℕ
   pub window : List ℕ
 
--- a call: the settings with their gains, what is held before and after, the input, and what is written to output and marks
+-- a call: the settings with their gains, what is held before and after, the input, and what is written to output, marks and numbers
 pub record Vector : Type 0 where
   pub settings : EqParams
   pub kp : ℕ
@@ -30,6 +30,7 @@ pub record Vector : Type 0 where
   pub after : Held
   pub out : List ℕ
   pub marks : List ℕ
+  pub numbers : List ℕ
 
 unfoldable equalizer_of : Vector → Held → Equalizer
 equalizer_of v h = record {
@@ -41,8 +42,8 @@ equalizer_of v h = record {
 unfoldable passes : Vector → Bool
 passes v =
     let n = length v.marks in
-    let a = equalize_def (equalizer_of v v.before) (map f32 v.input) (replicate (2 * n) zero32) (replicate n 0) in
-    same a.reply [] && same_equalizer a.equalizer (equalizer_of v v.after) && same (bits_of a.out) v.out && same a.marks v.marks
+    let a = equalize_def (equalizer_of v v.before) (map f32 v.input) (replicate (2 * n) zero32) (replicate n 0) (replicate n 0) in
+    same a.reply [] && same_equalizer a.equalizer (equalizer_of v v.after) && same (bits_of a.out) v.out && same a.marks v.marks && same a.numbers v.numbers
 
 unfoldable all_pass : List Vector → Bool
 all_pass [] = true
@@ -75,6 +76,7 @@ cma_qpsk = record {
   };
   out = 0x3ea4_59fa ∷ 0x3e34_eb34 ∷ 0x3d1d_65f7 ∷ 0xbedb_b447 ∷ 0xbe9c_bf45 ∷ 0x3e61_53be ∷ 0x3ebd_88ac ∷ 0xbc61_ecde ∷ [];
   marks = 0 ∷ 0 ∷ 0 ∷ 0 ∷ [];
+  numbers = 0 ∷ 1 ∷ 2 ∷ 1 ∷ [];
 }
 
 -- Decision, 16-QAM
@@ -104,6 +106,7 @@ decision_qam16 = record {
   };
   out = 0x3db3_7b90 ∷ 0x3e03_ccca ∷ 0xbf2e_1dfd ∷ 0x3e2b_10d9 ∷ 0x3e37_43fa ∷ 0x3f1a_1620 ∷ 0x3dc7_d6fb ∷ 0x3eb1_b8e0 ∷ [];
   marks = 0 ∷ 0 ∷ 0 ∷ 0 ∷ [];
+  numbers = 15 ∷ 3 ∷ 15 ∷ 15 ∷ [];
 }
 
 -- the switch from Cma to Decision inside the call, 8-PSK
@@ -133,6 +136,7 @@ switch_8psk = record {
   };
   out = 0x3d8b_ff0f ∷ 0x3e05_a2df ∷ 0xbe8a_14d7 ∷ 0xbe51_029b ∷ 0x3e5d_a466 ∷ 0xbe9c_9f1b ∷ 0xba9f_bc80 ∷ 0xbef3_54de ∷ [];
   marks = 0 ∷ 0 ∷ 0 ∷ 0 ∷ [];
+  numbers = 1 ∷ 4 ∷ 6 ∷ 5 ∷ [];
 }
 
 -- feedback taps, 64-QAM
@@ -162,6 +166,7 @@ feedback_qam64 = record {
   };
   out = 0xbee6_12e4 ∷ 0x3eef_aacb ∷ 0xbe2e_fef5 ∷ 0x3d3a_2ce8 ∷ 0xbe1a_6a1c ∷ 0x3e85_34fe ∷ 0x3cbd_7544 ∷ 0x3d79_cb9c ∷ 0x3f01_8a5a ∷ 0xbc83_261d ∷ [];
   marks = 0 ∷ 0 ∷ 0 ∷ 0 ∷ 0 ∷ [];
+  numbers = 31 ∷ 22 ∷ 22 ∷ 54 ∷ 58 ∷ [];
 }
 
 -- feedback taps and the switch, BPSK
@@ -191,6 +196,7 @@ feedback_bpsk_switch = record {
   };
   out = 0x3e8c_f573 ∷ 0x3f2e_b0da ∷ 0x3e0b_a8db ∷ 0x3e42_d6c0 ∷ 0x3f2c_b12b ∷ 0xbe4d_90ca ∷ 0xbea8_e88b ∷ 0x3f3b_081c ∷ [];
   marks = 0 ∷ 0 ∷ 0 ∷ 0 ∷ [];
+  numbers = 0 ∷ 0 ∷ 0 ∷ 1 ∷ [];
 }
 
 -- blanks among the samples, QPSK
@@ -220,6 +226,7 @@ blanks_qpsk = record {
   };
   out = 0x3f0f_0ab6 ∷ 0xbcb6_cdd0 ∷ 0 ∷ 0 ∷ 0 ∷ 0 ∷ 0xbf04_62a7 ∷ 0xbf02_0f76 ∷ 0 ∷ 0 ∷ 0x3b98_a9f0 ∷ 0x3e0f_1b87 ∷ [];
   marks = 0 ∷ 1 ∷ 1 ∷ 0 ∷ 1 ∷ 0 ∷ [];
+  numbers = 1 ∷ 255 ∷ 255 ∷ 3 ∷ 255 ∷ 0 ∷ [];
 }
 
 -- sums that are not finite, 16-QAM
@@ -249,6 +256,7 @@ spilled_qam16 = record {
   };
   out = 0 ∷ 0 ∷ 0 ∷ 0 ∷ 0 ∷ 0 ∷ 0 ∷ 0 ∷ 0xfdb9_c55e ∷ 0xfe97_a0ec ∷ 0x5f0e_c946 ∷ 0x5fe9_167c ∷ [];
   marks = 2 ∷ 2 ∷ 2 ∷ 2 ∷ 0 ∷ 0 ∷ [];
+  numbers = 255 ∷ 255 ∷ 255 ∷ 255 ∷ 0 ∷ 10 ∷ [];
 }
 
 -- a forward window of zeros, a sample whose square is 0, and a sample that is heard
@@ -278,6 +286,7 @@ silence_decision = record {
   };
   out = 0x3e85_0fb6 ∷ 0xbd30_0683 ∷ 0 ∷ 0 ∷ 0x0cea_d5ae ∷ 0x8cb0_2f37 ∷ 0xbee2_f904 ∷ 0xbd81_5abc ∷ 0x3ec7_99f3 ∷ 0x3e9a_cbce ∷ [];
   marks = 3 ∷ 3 ∷ 3 ∷ 0 ∷ 0 ∷ [];
+  numbers = 255 ∷ 255 ∷ 255 ∷ 3 ∷ 0 ∷ [];
 }
 
 -- nine forward taps, two feedback taps, 8-PSK
@@ -307,6 +316,7 @@ nine_taps = record {
   };
   out = 0xbd89_22cc ∷ 0xbed1_2fc8 ∷ 0xbdef_2d69 ∷ 0xbe35_cdc3 ∷ 0xbeea_071d ∷ 0x3dbc_4d02 ∷ [];
   marks = 0 ∷ 0 ∷ 0 ∷ [];
+  numbers = 5 ∷ 5 ∷ 3 ∷ [];
 }
 
 -- the table, whole

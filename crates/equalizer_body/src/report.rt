@@ -166,7 +166,7 @@ pub(crate) fn about(p: Program<'_>, about: About) -> Result<(), Status> {
     })
 }
 
-const VERSION: &[u8] = b"equalizer 0.1.0\n";
+const VERSION: &[u8] = b"equalizer 0.2.0\n";
 
 const HELP: &[u8] = b"usage: equalizer [OPTION [VALUE]].. [--then [OPTION [VALUE]]..]..
 Equalizes complex samples. Samples and symbols are cf32: interleaved little-endian f32, real part first.
