@@ -42,6 +42,8 @@ SAME = {
         "∷ test (eqb l.marks (l.output / 2)) (Marks (l.input / 2) l.marks)",
         "∷ test (eqb l.marks (l.input / 2)) (Marks (l.output / 2) l.marks)",
     ],
+    # and test 10
+    "∷ test (eqb l.numbers (l.input / 2)) Numbers": ["∷ test (eqb l.numbers (l.output / 2)) Numbers"],
 }
 
 # what a word becomes: each of a pair the other, or the first of a pair the second
@@ -50,7 +52,7 @@ EACH = """
 zero32 one32, Cma Decision, take drop, Blank Spilled, Silent OffScale, wide tall, C8 S8, min max, up down, prod_re prod_im, new_re new_im, forward feedback, one64 two64, tau four64,
 bw_min bw_max, nlms_eps mse_alpha, n f, w h, x y, a b, expected got"""
 FIRST = """
-*f +f, .marks .output, .count .phase, Spilled Heard, Blank Heard, Heard Blank, Silent Heard, OffScale Heard, Heard Silent, forward all_taps, two64 four64, four64 two64, mu_min tiny, max_freq one32, tiny nlms_eps, m f"""
+*f +f, .marks .output, .marks .numbers, .numbers .marks, no_number n, ms ns, .count .phase, Spilled Heard, Blank Heard, Heard Blank, Silent Heard, OffScale Heard, Heard Silent, forward all_taps, two64 four64, four64 two64, mu_min tiny, max_freq one32, tiny nlms_eps, m f"""
 BECOMES = {}
 for a, b in (pair.split() for pair in (EACH + "," + FIRST).split(",")):
     BECOMES.setdefault(a, []).append(b)
