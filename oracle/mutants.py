@@ -42,6 +42,12 @@ SAME = {
         "∷ test (eqb l.marks (l.output / 2)) (Marks (l.input / 2) l.marks)",
         "∷ test (eqb l.marks (l.input / 2)) (Marks (l.output / 2) l.marks)",
     ],
+    # a level's code is one of eight, and so is its place back
+    "symbol_of k z = get_or grays (level_of k z.re) 0 * level_count k + get_or grays (level_of k z.im) 0": [
+        "symbol_of k z = get_or grays (level_of k z.re) 1 * level_count k + get_or grays (level_of k z.im) 0",
+        "symbol_of k z = get_or grays (level_of k z.re) 0 * level_count k + get_or grays (level_of k z.im) 1",
+    ],
+    "level_with k n = get_or (levels k) (get_or ungrays n 0) nan": ["level_with k n = get_or (levels k) (get_or ungrays n 1) nan"],
     # and test 10
     "∷ test (eqb l.numbers (l.input / 2)) Numbers": ["∷ test (eqb l.numbers (l.output / 2)) Numbers"],
 }

@@ -1,13 +1,14 @@
 -- The numbers of the points, as one table: decisions, by the bits, and the number of each; every number from its own point; calls. The numbers of QAM
 -- and the symbols are the Rust's (oracle/README.md), all else the customer's words.
-use Rattle.std.specs.Prelude.{ℕ, zero, suc, Bool, true, false, ◌&&◌, List, [], ◌∷◌, replicate, map, eqb}
+use Rattle.std.specs.Prelude.{ℕ, zero, suc, Bool, true, false, ◌&&◌, List, [], ◌∷◌, replicate, map, length, eqb}
 use Rattle.std.specs.Float.{nan, inf}
 use Rattle.types.specs.declared.C32.{C32}
 use Rattle.types.specs.declared.EqConstellation.{EqConstellation}
 use Rattle.types.specs.declared.EqConstellation.TheVariants.{Bpsk, Qpsk, Psk8, Qam16, Qam64}
 use Rattle.types.specs.Bits.{f32, zero32}
 use Rattle.definition.specs.Floats.{complex}
-use Rattle.definition.specs.Points.{number_of, point_of, point_count}
+use Rattle.definition.specs.Points.{decide, number_of, point_of, point_count, powers}
+use Rattle.definition.specs.Rules.{same_bits}
 use Rattle.definition.specs.Rows.{same, all, holds}
 use Rattle.definition.specs.Examples.{after_new, answers}
 use Rattle.definition.specs.Marks.{fixed, gives}
@@ -47,16 +48,22 @@ qam_rows =
     ∷ is_number Qam64 (at 0 0) 54 ∷ is_number Qam64 (complex (inf false) (inf false)) 36 ∷ is_number Qam64 (complex nan zero32) 6
     ∷ []
 
--- ---- each number's own point has that number, of all below n
+-- ---- each number's own point has that number and decides to itself, of all below n
+
+unfoldable is_point : EqConstellation → ℕ → C32 → Bool
+is_point k n p = eqb (number_of k p) n && same_bits (decide k p).re p.re && same_bits (decide k p).im p.im
 
 unfoldable leads_back : EqConstellation → ℕ → Bool
 leads_back k zero = true
-leads_back k (suc n) = eqb (number_of k (point_of k n)) n && leads_back k n
+leads_back k (suc n) = is_point k n (point_of k n) && leads_back k n
 
 unfoldable point_rows : List Bool
 point_rows =
     leads_back Bpsk (point_count Bpsk) ∷ leads_back Qpsk (point_count Qpsk) ∷ leads_back Psk8 (point_count Psk8) ∷ leads_back Qam16 (point_count Qam16)
-    ∷ leads_back Qam64 (point_count Qam64) ∷ []
+    ∷ leads_back Qam64 (point_count Qam64)
+    -- as many points as R2 has powers
+    ∷ eqb (point_count Bpsk) (length (powers Bpsk)) ∷ eqb (point_count Qpsk) (length (powers Qpsk)) ∷ eqb (point_count Psk8) (length (powers Psk8))
+    ∷ eqb (point_count Qam16) (length (powers Qam16)) ∷ eqb (point_count Qam64) (length (powers Qam64)) ∷ []
 
 -- ---- calls
 
@@ -72,5 +79,5 @@ call_rows =
 
 -- the table, whole
 unfoldable pub numbers_pass : Bool
-unfolding after_new answers fixed gives is_number at phase_rows levels16 row16 qam_rows leads_back point_rows call_rows
+unfolding after_new answers fixed gives is_number at phase_rows levels16 row16 qam_rows is_point leads_back point_rows call_rows
 numbers_pass = all phase_rows && all qam_rows && all point_rows && all call_rows
