@@ -48,7 +48,10 @@ SAME = {
         "symbol_of k z = get_or grays (level_of k z.re) 0 * level_count k + get_or grays (level_of k z.im) 1",
     ],
     "level_with k n = get_or (levels k) (get_or ungrays n 0) nan": ["level_with k n = get_or (levels k) (get_or ungrays n 1) nan"],
-    # and test 10
+    # samples with these marks come to no decision: `passed_by` has no number for them
+    "numbered Blank n = no_number": ["numbered Blank n = n"],
+    "numbered Spilled n = no_number": ["numbered Spilled n = n"],
+    # tests 9 and 10 have passed
     "∷ test (eqb l.numbers (l.input / 2)) Numbers": ["∷ test (eqb l.numbers (l.output / 2)) Numbers"],
 }
 
