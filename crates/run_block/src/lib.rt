@@ -70,10 +70,11 @@ fn load_linear(call: &Call, weights: &[f32], window: &[f32], w: &mut Weights, h:
 {
     let n = call.n;
     let Shape { front, m, .. } = call.shape;
-    lanes_load::split(w, 0, weights, 0, n);
-    lanes_load::split(w, Weights::BACK + front, weights, n, m);
-    lanes_load::split(&mut h.values, RUN, window, 0, n);
-    lanes_load::split(&mut h.values, Window::HOME, window, n, m);
+    lanes_load::split(&mut w.re, &mut w.im, 0, weights, 0, n);
+    lanes_load::split(&mut w.re, &mut w.im, Weights::BACK + front, weights, n, m);
+    let v = &mut h.values;
+    lanes_load::split(&mut v.re, &mut v.im, RUN, window, 0, n);
+    lanes_load::split(&mut v.re, &mut v.im, Window::HOME, window, n, m);
     lanes_prepare::squares(h, Window::HOME, Window::HOME + m);
 }
 
@@ -86,10 +87,10 @@ fn store_linear(call: &Call, weights: &mut [f32], window: &mut [f32], w: &Weight
 {
     let n = call.n;
     let Shape { front, m, .. } = call.shape;
-    lanes_load::joined(weights, w, 0, 0, n);
-    lanes_load::joined(weights, w, Weights::BACK + front, n, m);
-    lanes_load::joined(window, &h.values, RUN, 0, n);
-    lanes_load::joined(window, &h.values, Window::HOME, n, m);
+    lanes_load::joined(weights, &w.re, &w.im, 0, 0, n);
+    lanes_load::joined(weights, &w.re, &w.im, Weights::BACK + front, n, m);
+    lanes_load::joined(window, &h.values.re, &h.values.im, RUN, 0, n);
+    lanes_load::joined(window, &h.values.re, &h.values.im, Window::HOME, n, m);
 }
 
 // A block by n forward and m feedback taps: arrays, all runs, and back. The taps are counted in `run_linear`, where a wrong count costs the check of a small crate.

@@ -31,11 +31,13 @@ fn finish_run(call: &Call, h: &mut Window, len: usize)
     ensures { Finished call.now.n call.now.shape.m (64 - len) h.old.values.re h.old.values.im h.old.squares h.new.values.re h.new.values.im h.new.squares }
 {
     let first = RUN - len;
-    lanes_load::moved(&mut h.values, first, RUN, call.n);
+    lanes_load::moved(&mut h.values.re, first, RUN, call.n);
+    lanes_load::moved(&mut h.values.im, first, RUN, call.n);
     let m = call.shape.m;
     let back = first + Window::BACK;
-    lanes_load::moved(&mut h.values, back, Window::HOME, m);
-    h.squares.copy_within(back..back + m, Window::HOME);
+    lanes_load::moved(&mut h.values.re, back, Window::HOME, m);
+    lanes_load::moved(&mut h.values.im, back, Window::HOME, m);
+    lanes_load::moved(&mut h.squares, back, Window::HOME, m);
 }
 
 // One run: the samples i .. e, at most RUN. By i and e: the specification has the run's `&mut output[a..b]` here, in place.

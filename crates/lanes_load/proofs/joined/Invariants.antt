@@ -3,4 +3,4 @@ use Rattle.lanes_load.specs.Load.{Joined}
 use Rattle.lanes_load.proofs.joined.Given as goal
 
 abbrev pub invariant-loop-i : goal.invariant-loop-i
-invariant-loop-i g l = Joined l.s.re l.s.im l.at l.from l.i l.initial.x l.x
+invariant-loop-i l = Joined l.re l.im l.at l.from l.i l.initial.x l.x

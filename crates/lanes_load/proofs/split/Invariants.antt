@@ -5,4 +5,4 @@ use Rattle.lanes.specs.Between.{Replaced}
 use Rattle.lanes_load.proofs.split.Given as goal
 
 abbrev pub invariant-loop-i : goal.invariant-loop-i
-invariant-loop-i g l = Replaced (λ k. re_at l.x (l.from + k)) l.at l.i l.initial.s.re l.s.re × Replaced (λ k. im_at l.x (l.from + k)) l.at l.i l.initial.s.im l.s.im
+invariant-loop-i l = Replaced (λ k. re_at l.x (l.from + k)) l.at l.i l.initial.re l.re × Replaced (λ k. im_at l.x (l.from + k)) l.at l.i l.initial.im l.im
