@@ -1,5 +1,5 @@
 -- The fewest digits that hold a number are the number's digits. Assumes nothing.
-use Rattle.std.proofs.Common.{◌≡◌, ℕ, zero, suc, ◌+◌, ◌-◌, ◌*◌, ◌/◌, ◌%◌, ◌^◌, ◌<◌, ◌≤◌, pow-suc, arith, le-ltb, lt-ltb}
+use Rattle.std.proofs.Common.{◌≡◌, ℕ, zero, suc, ◌+◌, ◌-◌, ◌*◌, ◌/◌, ◌%◌, ◌^◌, ◌<◌, ◌≤◌, [], ◌∷◌, refl, pow-suc, arith, le-ltb, lt-ltb}
 use Rattle.io.specs.Digits.{hex_digit_ascii, last_digits, IsDigitCount}
 use Rattle.program_text.specs.Pages.{numeral_in, numeral}
 
@@ -47,3 +47,8 @@ digits_are (suc f) (suc (suc k)) n h (a, b, c) =
 pub numeral_is : (k n : ℕ) → n < 100_000_000_000_000_000_000 → IsDigitCount 10 1 n k → last_digits 10 k n ≡ numeral n
 unfolding numeral
 numeral_is k n h w = digits_are 20 k n (fits k n h w) w
+
+-- a number below ten is its digit
+pub digit_is : (n : ℕ) → n < 10 → (48 + n) ∷ [] ≡ numeral n
+unfolding numeral_in numeral
+digit_is n h = rw (lt-ltb n 10 h) refl

@@ -1,5 +1,5 @@
 -- Text on a page, and what is written there.
-use Rattle.std.specs.Prelude.{◌≡◌, ℕ, zero, suc, ◌+◌, ◌/◌, ◌%◌, min, max, cond, List, [], ◌∷◌, ◌++◌, length, nat_lt, slice_index_or, take}
+use Rattle.std.specs.Prelude.{◌≡◌, ℕ, zero, suc, ◌+◌, ◌/◌, ◌%◌, min, max, cond, List, [], ◌∷◌, ◌++◌, length, nat_lt, slice_index_or, take, drop}
 use Rattle.program_words.specs.Words.{divided}
 
 -- A list of bytes that keeps its length, with a text laid over it from a place on, as far as it reaches.
@@ -20,6 +20,11 @@ LaidAs p at t after next = (after ≡ laid p at t) × (next ≡ reached p at t)
 -- What stands on a page of n bytes where a text is written behind another: what finds no room is left out.
 unfoldable pub written : ℕ → List ℕ → List ℕ → List ℕ
 written n s t = take n (s ++ t)
+
+-- What stands on a page of n bytes, where a text was written behind s: in any list of n bytes that begins with s, what stands there is the text laid
+-- from behind s on, and its length is the place reached.
+unfoldable pub LaidBehind : ℕ → List ℕ → List ℕ → List ℕ → Type 0
+LaidBehind n s t after = (p : List ℕ) → length p ≡ n → take (length s) p ≡ s → LaidAs p (length s) t (after ++ drop (length after) p) (length after)
 
 -- The decimal digits of a number, the highest first, with no zero in front of another digit; at most as many as the first number says.
 unfoldable pub numeral_in : ℕ → ℕ → List ℕ

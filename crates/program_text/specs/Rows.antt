@@ -1,6 +1,6 @@
 -- Known values of each definition.
 use Rattle.std.specs.Prelude.{◌≡◌, ℕ, List, [], ◌∷◌}
-use Rattle.program_text.specs.Pages.{LaidAs, written, numeral, entry_of}
+use Rattle.program_text.specs.Pages.{LaidAs, written, LaidBehind, numeral, entry_of}
 
 -- a page of three bytes
 abbrev page : List ℕ
@@ -17,6 +17,12 @@ abbrev pub WrittenRows : Type 0
 WrittenRows =
     (written 3 [] (7 ∷ 8 ∷ []) ≡ 7 ∷ 8 ∷ []) × (written 3 (7 ∷ []) (8 ∷ 9 ∷ []) ≡ 7 ∷ 8 ∷ 9 ∷ []) × (written 3 (7 ∷ 8 ∷ []) (9 ∷ 9 ∷ []) ≡ 7 ∷ 8 ∷ 9 ∷ [])
     × (written 3 page (9 ∷ []) ≡ page) × (written 3 (7 ∷ []) [] ≡ 7 ∷ [])
+
+-- behind a text; past the end, where it is cut; not over the text
+abbrev pub BehindRows : Type 0
+BehindRows =
+    LaidBehind 3 (7 ∷ []) (8 ∷ []) (7 ∷ 8 ∷ []) × LaidBehind 3 (7 ∷ 8 ∷ []) (9 ∷ 9 ∷ []) (7 ∷ 8 ∷ 9 ∷ [])
+    × (LaidBehind 3 (7 ∷ []) (8 ∷ []) (8 ∷ []) → ⊥)
 
 -- 0, 7, 10, 1066, 2^64 - 1
 abbrev pub NumeralRows : Type 0
