@@ -1,4 +1,8 @@
 // The options of a run, as the arguments give them.
+ghost use Rattle.std.specs.Prelude.{◌≡◌, codes, bytes_eq, MatchOption, Result};
+ghost use Rattle.equalizer_body.specs.Options.{first_named, options, option_with, words_taken, name_with, symbols_with};
+ghost use Rattle.program_words.specs.Wholes.{whole_of as whole_in};
+ghost use Rattle.std.specs.Result.{result_ok};
 
 use equalizer_stream::{Path, Ways};
 use program::arguments::{Fault, Name, Value};
@@ -54,58 +58,78 @@ enum Flag {
     About(About),
 }
 
-// An option: one that takes a value, with what it takes in words, or one that takes none.
+// An option: one that takes a value, or one that takes none.
 #[derive(Clone, Copy)]
 enum Kind {
-    Valued(Setting, &'static [u8]),
+    Valued(Setting),
     Alone(Flag),
 }
 
-// What several options take, in words.
-const OUTPUT: &[u8] = b"the name of a file, or - for standard output";
-
-const STEP_SIZE: &[u8] = b"a number from 0.00001 to 1, of at most 15 digits";
-
-// The option of a name.
-fn named(name: &[u8]) -> Option<Kind> {
-    Some(match name {
-        b"--in" => Kind::Valued(
-            Setting::Input,
-            b"the name of a file, or - for standard input",
-        ),
-        b"--out" => Kind::Valued(Setting::Output, OUTPUT),
-        b"--marks" => Kind::Valued(Setting::Marks, OUTPUT),
-        b"--numbers" => Kind::Valued(Setting::Numbers, OUTPUT),
-        b"--curve" => Kind::Valued(Setting::Curve, OUTPUT),
-        b"--mu-cma" => Kind::Valued(Setting::MuCma, STEP_SIZE),
-        b"--mu-dd" => Kind::Valued(Setting::MuDd, STEP_SIZE),
-        b"--bandwidth" => Kind::Valued(
-            Setting::Bandwidth,
-            b"0, or a number from 0.0001 to 0.2, of at most 15 digits",
-        ),
-        b"--frequency" => Kind::Valued(
-            Setting::Frequency,
-            b"a number, held to -0.125 to 0.125, of at most 15 digits",
-        ),
-        b"--taps" => Kind::Valued(Setting::Taps, b"an odd number from 3 to 63"),
-        b"--feedback" => Kind::Valued(Setting::Feedback, b"a whole number from 0 to 63"),
-        b"--cma-symbols" => Kind::Valued(
-            Setting::CmaSymbols,
-            b"a whole number from 0 to 4294967294, or never",
-        ),
-        b"--block" => Kind::Valued(Setting::Block, b"a whole number from 1 to 4096"),
-        b"--constellation" => {
-            Kind::Valued(Setting::Constellation, b"bpsk, qpsk, 8psk, 16qam or 64qam")
-        }
-        b"--path" => Kind::Valued(Setting::Path, b"plain or fast"),
-        b"--text" => Kind::Alone(Flag::Text),
-        b"--help" | b"-h" => Kind::Alone(Flag::About(About::Help)),
-        b"--version" => Kind::Alone(Flag::About(About::Version)),
-        _ => return None,
-    })
+// The option of a word. Text, since of a match on byte strings as long as these no proof is found.
+fn kind_of(word: &str) -> Option<Kind>
+    ensures { result ≡ first_named options word.now }
+{
+    match word {
+        "--in" => Some(Kind::Valued(Setting::Input)),
+        "--out" => Some(Kind::Valued(Setting::Output)),
+        "--marks" => Some(Kind::Valued(Setting::Marks)),
+        "--numbers" => Some(Kind::Valued(Setting::Numbers)),
+        "--curve" => Some(Kind::Valued(Setting::Curve)),
+        "--mu-cma" => Some(Kind::Valued(Setting::MuCma)),
+        "--mu-dd" => Some(Kind::Valued(Setting::MuDd)),
+        "--bandwidth" => Some(Kind::Valued(Setting::Bandwidth)),
+        "--frequency" => Some(Kind::Valued(Setting::Frequency)),
+        "--taps" => Some(Kind::Valued(Setting::Taps)),
+        "--feedback" => Some(Kind::Valued(Setting::Feedback)),
+        "--cma-symbols" => Some(Kind::Valued(Setting::CmaSymbols)),
+        "--block" => Some(Kind::Valued(Setting::Block)),
+        "--constellation" => Some(Kind::Valued(Setting::Constellation)),
+        "--path" => Some(Kind::Valued(Setting::Path)),
+        "--text" => Some(Kind::Alone(Flag::Text)),
+        "--help" | "-h" => Some(Kind::Alone(Flag::About(About::Help))),
+        "--version" => Some(Kind::Alone(Flag::About(About::Version))),
+        _ => None,
+    }
 }
 
-fn name_of(t: &[u8], v: Value) -> Name {
+// The option of a name. The words are text: bytes that are none are no option's name.
+#[tactic(auto, using(crate::proofs::Places::option_is, crate::proofs::Places::no_option))]
+fn named(name: &[u8]) -> Option<Kind>
+    ensures { result ≡ option_with name.now }
+{
+    match std::str::from_utf8(name) {
+        Ok(word) => kind_of(word),
+        Err(_) => None,
+    }
+}
+
+impl Setting {
+    // What the option takes, in words.
+    fn takes(self) -> &'static [u8]
+        ensures { result.now ≡ words_taken self }
+    {
+        match self {
+            Setting::Input => b"the name of a file, or - for standard input",
+            Setting::Output | Setting::Marks | Setting::Numbers | Setting::Curve => {
+                b"the name of a file, or - for standard output"
+            }
+            Setting::MuCma | Setting::MuDd => b"a number from 0.00001 to 1, of at most 15 digits",
+            Setting::Bandwidth => b"0, or a number from 0.0001 to 0.2, of at most 15 digits",
+            Setting::Frequency => b"a number, held to -0.125 to 0.125, of at most 15 digits",
+            Setting::Taps => b"an odd number from 3 to 63",
+            Setting::Feedback => b"a whole number from 0 to 63",
+            Setting::CmaSymbols => b"a whole number from 0 to 4294967294, or never",
+            Setting::Block => b"a whole number from 1 to 4096",
+            Setting::Constellation => b"bpsk, qpsk, 8psk, 16qam or 64qam",
+            Setting::Path => b"plain or fast",
+        }
+    }
+}
+
+// What the value v of text t names.
+fn name_of(t: &[u8], v: Value) -> Name
+    ensures { result ≡ name_with t.now v }
+{
     match t {
         b"-" => Name::Standard,
         _ => Name::File(v),
@@ -123,6 +147,7 @@ pub(crate) const MOST_TAPS: usize = 999;
 fn whole_of<T: TryFrom<u64>>(t: &[u8], most: u64) -> Option<T>
 where
     T::Error: Drop,
+    ensures { MatchOption (whole_in t.now most) (result ≡ None) (λ n. (r : Result T T.Error) × T.try_from_gives n r × (result ≡ result_ok r)) }
 {
     T::try_from(numbers::whole_of(t, most)?).ok()
 }
@@ -132,7 +157,9 @@ fn taps_of(t: &[u8]) -> Option<usize> {
 }
 
 // `never` is the count that is not reached.
-fn symbols_of(t: &[u8]) -> Option<u32> {
+fn symbols_of(t: &[u8]) -> Option<u32>
+    ensures { result ≡ symbols_with t.now }
+{
     match t {
         b"never" => Some(EqParams::NEVER_SWITCH),
         _ => whole_of(t, u64::from(EqParams::NEVER_SWITCH) - 1),
@@ -221,11 +248,11 @@ impl Options {
                 self.flag(flag);
                 Ok(())
             }
-            (Some(Kind::Valued(setting, takes)), value) => {
+            (Some(Kind::Valued(setting)), value) => {
                 let v = value
                     .or_else(|| places.next().map(Value::from))
                     .ok_or(Fault::NoValue(at))?;
-                self.take_value(rt, at, setting, takes, v)
+                self.take_value(rt, at, setting, v)
             }
         }
     }
@@ -236,12 +263,11 @@ impl Options {
         rt: &HostRuntime,
         at: usize,
         setting: Setting,
-        takes: &'static [u8],
         v: Value,
     ) -> Result<(), Fault> {
         let value = text_of(rt, v)?;
         self.set(setting, value.bytes(), v)
-            .ok_or(Fault::Unreadable(at, v, takes))
+            .ok_or_else(|| Fault::Unreadable(at, v, setting.takes()))
     }
 }
 
@@ -262,11 +288,19 @@ pub(crate) fn read(rt: &HostRuntime, mut places: Range<usize>) -> Result<Options
     Ok(o)
 }
 
-fn is_then(rt: &HostRuntime, at: usize) -> bool {
-    arguments::text_of(rt, Value::from(at)).bytes() == b"--then".as_slice()
+// Whether a word ends a run's arguments.
+fn is_then(word: &[u8]) -> bool
+    ensures { result ≡ bytes_eq word.now (codes "--then") }
+{
+    word == b"--then".as_slice()
 }
 
 // Where the arguments of a run end: at the next `--then`, or at the last.
 pub(crate) fn end_of(rt: &HostRuntime, start: usize, count: usize) -> usize {
-    (start..count).find(|at| is_then(rt, *at)).unwrap_or(count)
+    (start..count)
+        .find(|at| {
+            let word: arguments::Text = arguments::text_of(rt, Value::from(*at));
+            is_then(word.bytes())
+        })
+        .unwrap_or(count)
 }

@@ -26,9 +26,10 @@ fn too_long(p: Program<'_>, at: usize) -> Told {
 
 // An option, without the value behind its `=`, and a value that it does not take.
 fn not_taken(p: Program<'_>, at: usize, v: Value, takes: &'static [u8]) -> Told {
-    let argument = arguments::text_of(p.rt, Value::from(at));
+    let argument: arguments::Text = arguments::text_of(p.rt, Value::from(at));
     let option = &argument.bytes()[..arguments::name_end(argument.bytes())];
-    let quoted = if arguments::text_of(p.rt, v).bytes().is_empty() {
+    let value: arguments::Text = arguments::text_of(p.rt, v);
+    let quoted = if value.bytes().is_empty() {
         Words(b"an empty value")
     } else {
         Text(v)

@@ -160,7 +160,7 @@ const LINE: usize = 128;
 // A float, and a blank.
 fn spaced<const N: usize>(p: &mut Page<N>, x: f32) {
     p.float(x);
-    p.words(b" ");
+    p.byte(b' ');
 }
 
 // A symbol, its mark and its number in a line.
@@ -168,9 +168,9 @@ fn line(p: &mut Lines, re: f32, im: f32, mark: u8, number: u8) {
     spaced(p, re);
     spaced(p, im);
     p.count(u64::from(mark));
-    p.words(b" ");
+    p.byte(b' ');
     p.count(u64::from(number));
-    p.words(b"\n");
+    p.byte(b'\n');
 }
 
 // Writes a page that has no room for another line, and begins it anew. No `BufWriter`: it takes an allocator, and there is no heap.
@@ -197,7 +197,7 @@ fn lines(mut to: Sink<'_>, y: &[f32], marks: &[u8], numbers: &[u8]) -> io::Resul
 // A point of the learning curve: the samples so far, the mean error and the mode.
 fn point(p: &mut Page<LINE>, t: Tally, s: EqualizeState) {
     p.count(t.samples);
-    p.words(b" ");
+    p.byte(b' ');
     spaced(p, s.mse);
     let _ = writeln!(p, "{}", s.mode);
 }

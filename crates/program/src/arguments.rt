@@ -1,11 +1,11 @@
 // Arguments: options `--name value`, `--name=value` and `--name`.
-ghost use Rattle.std.specs.Prelude.{◌≡◌};
+ghost use Rattle.std.specs.Prelude.{◌≡◌, ◌≤◌, length, IfOk};
 
 use crate::text::Page;
 pub use program_words::words::{name_end, place};
 use std::env::{Env, FillError};
 
-// The text of an argument, which has at most 4,096 bytes.
+// The text of an argument of at most 4,096 bytes.
 pub type Text = Page<4096>;
 
 // Where the text of a value stands: behind `from` bytes of argument `at`. No text: an argument is copied into a buffer where it is read, and there is
@@ -58,16 +58,24 @@ pub fn count(env: &impl Env) -> usize {
         .unwrap_or(usize::MAX)
 }
 
-// A value's text, where all of it has room.
-pub fn whole_text_of(env: &impl Env, v: Value) -> Result<Text, FillError> {
-    let mut argument = io::buffer();
+// A value's text, where its whole argument has room on a page of N bytes.
+#[tactic(auto, using(program_text::proofs::Laying::written_fits))]
+pub fn whole_text_of<const N: usize>(env: &impl Env, v: Value) -> Result<Page<N>, FillError>
+    ensures { IfOk result (λ text. length text ≤ N) }
+{
+    let mut argument = [0u8; N];
     let n = env.arg(v.at, &mut argument)?;
     let mut text = Page::new();
     text.words(argument.get(v.from..n).unwrap_or(&[]));
     Ok(text)
 }
 
-// A value's text; empty where not all of it has room.
-pub fn text_of(env: &impl Env, v: Value) -> Text {
-    whole_text_of(env, v).unwrap_or_else(|_| Page::new())
+// A value's text; empty where its argument has no room on a page of N bytes.
+pub fn text_of<const N: usize>(env: &impl Env, v: Value) -> Page<N>
+    ensures { length result ≤ N }
+{
+    match whole_text_of(env, v) {
+        Ok(text) => text,
+        Err(_) => Page::new(),
+    }
 }

@@ -52,7 +52,7 @@ impl OpenInput {
 // A file that is an output's name and `.part`, and which file that is.
 #[derive(Drop)]
 pub struct PartFile {
-    name: Value,
+    pub name: Value,
     file: File,
     id: Option<FileId>,
 }
@@ -121,7 +121,7 @@ pub fn unwritten(name: Name, e: Error) -> [Part<'static>; 5]
 impl Program<'_> {
     // A value and `.part`, where there is room for it and the 0 behind it.
     fn part_name(self, v: Value) -> io::Result<Text> {
-        let mut name = arguments::text_of(self.rt, v);
+        let mut name: Text = arguments::text_of(self.rt, v);
         if name.room() <= PART.len() {
             return Err(Error::from(ErrorKind::InvalidFilename));
         }
@@ -131,7 +131,7 @@ impl Program<'_> {
 
     // A file that can be read: a read of nothing fails for a folder, which can be opened.
     fn readable(self, v: Value) -> io::Result<File> {
-        let name = arguments::text_of(self.rt, v);
+        let name: Text = arguments::text_of(self.rt, v);
         let mut file = File::open(self.rt, named(name.bytes())?)?;
         let mut none = [0u8; 0];
         file.read(&mut none)?;
@@ -157,13 +157,14 @@ impl Program<'_> {
     // Gives the `.part` of a value its name.
     fn renamed(self, v: Value) -> io::Result<()> {
         let part = self.part_name(v)?;
-        let name = arguments::text_of(self.rt, v);
+        let name: Text = arguments::text_of(self.rt, v);
         fs::rename(self.rt, named(part.bytes())?, named(name.bytes())?)
     }
 
     // Which file a value names.
     fn looked(self, v: Value) -> Seen {
-        program_look::look(self.rt, arguments::text_of(self.rt, v).bytes())
+        let name: Text = arguments::text_of(self.rt, v);
+        program_look::look(self.rt, name.bytes())
     }
 
     // Which file a value and `.part` name.

@@ -1,6 +1,6 @@
 // What a program says: lines on standard error that start with its name.
 use crate::arguments;
-use crate::arguments::Value;
+use crate::arguments::{Text, Value};
 use crate::text::Page;
 use std::io::{Error, ErrorKind, Write};
 
@@ -8,7 +8,7 @@ use std::io::{Error, ErrorKind, Write};
 #[derive(Clone, Copy)]
 pub struct Program<'a> {
     pub rt: &'a HostRuntime,
-    pub name: &'static [u8],
+    pub name: &'a [u8],
 }
 
 // A part of a line. No `write!` of all of a line: a value may be no UTF-8, so that a line is made of bytes, and a float and an error have their own words.
@@ -39,7 +39,10 @@ impl Program<'_> {
         for part in parts {
             match *part {
                 Part::Words(t) => line.words(t),
-                Part::Text(v) => line.words(arguments::text_of(self.rt, v).bytes()),
+                Part::Text(v) => {
+                    let text: Text = arguments::text_of(self.rt, v);
+                    line.words(text.bytes());
+                }
                 Part::Count(n) => line.count(n),
                 Part::Float(x) => line.float(x),
                 Part::Reason(e) => line.words(reason(e)),

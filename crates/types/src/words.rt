@@ -1,13 +1,16 @@
 // Refusals, unknown numbers and modes in words, and the constellation of a word.
 ghost use Rattle.std.specs.Prelude.{◌≡◌, Some};
-ghost use Rattle.types.specs.Words.{mode_word, constellation_with};
+ghost use Rattle.types.specs.Words.{error_word, error_text, unknown_text, mode_word, constellation_with};
 
 use crate::{EqConstellation, EqMode, Error, UnknownNumber};
 use std::fmt;
 
-impl fmt::Display for Error {
-    fn fmt<W: fmt::Write>(&self, f: &mut fmt::Formatter<W>) -> fmt::Result {
-        f.write_str(match self {
+impl Error {
+    // The words of a refusal, without its lengths.
+    fn words(self) -> &'static str
+        ensures { result.now ≡ error_word self }
+    {
+        match self {
             Error::Odd => "a complex slice has an odd count of f32",
             Error::Feedback => "over 63 feedback taps",
             Error::Taps => "forward taps even or outside 3 to 63",
@@ -19,7 +22,15 @@ impl fmt::Display for Error {
             Error::Output { .. } => "the output's length is not the input's",
             Error::Marks { .. } => "the marks' length is not the input's",
             Error::Numbers => "the numbers' length is not the input's",
-        })?;
+        }
+    }
+}
+
+impl fmt::Display for Error {
+    ghost output = { λ e. Some (error_text e) };
+
+    fn fmt<W: fmt::Write>(&self, f: &mut fmt::Formatter<W>) -> fmt::Result {
+        f.write_str(self.words())?;
         match self.lengths() {
             Some(l) => write!(f, ": {} expected, {} given", l.expected, l.got),
             None => Ok(()),
@@ -30,6 +41,8 @@ impl fmt::Display for Error {
 impl std::error::Error for Error {}
 
 impl fmt::Display for UnknownNumber {
+    ghost output = { λ u. Some (unknown_text u) };
+
     fn fmt<W: fmt::Write>(&self, f: &mut fmt::Formatter<W>) -> fmt::Result {
         write!(f, "no case has the number {}", self.number)
     }
