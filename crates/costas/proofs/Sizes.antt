@@ -1,4 +1,4 @@
--- |v| by a comparison with zero, where -0 stays: what is at most l in size is within -l .. l, and from 1e-30 on it is not flushed. Assumes nothing.
+-- |v| by a comparison with zero, where -0 stays: it compares as |v| does, what is at most l in size is within -l .. l, and from 1e-30 on it is not flushed. Assumes nothing.
 use Prim.Native.Nat.{ℕ, ◌+◌, ◌*◌, ◌≤◌, ◌<◌, zero-le}
 use mathlib.Core.Path.{◌≡◌, refl, sym, ap, ◌∙◌, subst}
 use mathlib.Core.Bool.{Bool, true, false, cond, not, ◌&&◌, ◌||◌}
@@ -15,6 +15,9 @@ use Rattle.definition.specs.Floats.{tiny, abs, flush, clip}
 
 abbrev pub size : Float → Float
 size v = cond (lt v zero32) (neg v) v
+
+least : (a z : ℕ) → z ≡ 0 → z ≤ a
+least a z h = omega arith
 
 -- ---- of a finite number: itself without the sign, or with it where it is a zero
 
@@ -42,6 +45,47 @@ sized true m e = go (ltb 0 (m * up e * 1 + 0 * 1 * down e)) refl
       is = ap (λ (b : Bool). cond b (fin false m e) (fin true m e)) h;
       nought = λ _. sym (mul-one (m * up e)) ∙ none (m * up e * 1) (0 * 1 * down e) (ltb-false 0 (m * up e * 1 + 0 * 1 * down e) h);
     }
+
+-- ---- sizes compare as magnitudes do
+
+-- the size and the magnitude of a float, side by side
+data Seen : Float → Float → Type 0 where
+  no_number : Seen nan nan
+  infinite : Seen (inf false) (inf false)
+  finite : (t : Bool) (m : ℕ) (e : ℤ) → (t ≡ true → m * up e ≡ 0) → Seen (fin t m e) (fin false m e)
+
+seen : (v : Float) → Seen (size v) (abs v)
+unfolding lt neg of_bits of_fields odd
+seen nan = no_number
+seen (inf true) = infinite
+seen (inf false) = infinite
+seen (fin s m e) = let z = sized s m e in subst (λ (x : Float). Seen x (fin false m e)) (sym z.is) (finite z.sign m e z.nought)
+
+times_zero : (a b : ℕ) → a ≡ 0 → a * b ≡ 0
+times_zero a b h = ap (λ (x : ℕ). x * b) h ∙ zero-mul b
+
+same_below : (s t : Bool) (a b : ℕ) → (s ≡ true → a ≡ 0) → (t ≡ true → b ≡ 0) → below s a t b ≡ ltb a b
+same_below false false a b h k = refl
+same_below false true a b h k = sym (le-ltb a b (least a b (k refl)))
+same_below true false a b h k = ap (ltb 0) (none a b (h refl)) ∙ ap (λ (x : ℕ). ltb x b) (sym (h refl))
+  where
+    none : (a b : ℕ) → a ≡ 0 → a + b ≡ b
+    none a b h = omega arith
+same_below true true a b h k = le-ltb b a (least b a (h refl)) ∙ sym (le-ltb a b (least a b (k refl)))
+
+seen_lt : {x a y b : Float} → Seen x a → Seen y b → lt x y ≡ lt a b
+unfolding lt
+seen_lt no_number w = refl
+seen_lt infinite no_number = refl
+seen_lt infinite infinite = refl
+seen_lt infinite (finite t n d k) = refl
+seen_lt (finite s m e h) no_number = refl
+seen_lt (finite s m e h) infinite = refl
+seen_lt (finite s m e h) (finite t n d k) =
+    same_below s t (m * up e * down d) (n * up d * down e) (λ p. times_zero (m * up e) (down d) (h p)) (λ p. times_zero (n * up d) (down e) (k p))
+
+pub size_lt : (u v : Float) → lt (size u) (size v) ≡ lt (abs u) (abs v)
+size_lt u v = seen_lt (seen u) (seen v)
 
 -- ---- what `le` says of two numbers
 

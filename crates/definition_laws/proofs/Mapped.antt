@@ -4,17 +4,19 @@
 --     mapped-read                 what stands from n on is old's
 --     part_even, part_odd         the parts of complex number i
 --     tabulate_take               the first n elements of a list
+--     mapped-long                 it keeps its length
 --     shift_list, start_is        shift, start weights
+--     clear_all                   all +0
 use Prim.Native.Nat.{ℕ, zero, suc, ◌+◌, ◌-◌, ◌*◌, ◌/◌, ◌%◌, ◌<◌, ◌≤◌}
 use mathlib.Core.Path.{◌≡◌, refl, sym, ◌∙◌, ap}
-use mathlib.Core.List.{List, ◌∷◌, ◌++◌}
+use mathlib.Core.List.{List, [], ◌∷◌, ◌++◌, append-nil}
 use native.Mathlib.Omega.{arith}
 use native.Mathlib.Numerals.{add-one}
-use lib.ListN.{length, get_or, set, take, drop}
+use lib.ListN.{length, get_or, set, take, drop, length-append, length-drop, drop_of_length-le}
 use lib.Seq.{take-suc, drop-cons, set_at, append_snoc, get_or-append-add, get_or-drop}
 use lib.Ieee.{Float, nan}
 use Rattle.types.specs.declared.C32.{C32}
-use Rattle.types.specs.Bits.{one32}
+use Rattle.types.specs.Bits.{zero32, one32}
 use Rattle.definition.specs.Slices.{shifted, zeros, part, tabulate, start_weights}
 use Rattle.definition_laws.proofs.Every.{length_tabulate}
 
@@ -40,6 +42,9 @@ module _ {f : ℕ → Float} {old : List Float} where
       let i : length (tabulate n f) + (q - n) ≡ q = omega (arith, length_tabulate n f) in
       let j : n + (q - n) ≡ q = omega arith in
       rw m.is (rw i at (get_or-append-add (tabulate n f) (drop n old) (q - n) d) ∙ get_or-drop n old (q - n) d ∙ rw j)
+
+  pub mapped-long : (n : ℕ) {l : List Float} → n ≤ length old → Mapped f old n l → length l ≡ length old
+  mapped-long n h m = rw m.is (simp (length-append, length_tabulate, length-drop) (omega arith))
 
 -- ---- the parts of complex numbers
 pub part_even : (re im : ℕ → Float) (i : ℕ) → part re im (2 * i) ≡ re i
@@ -68,6 +73,21 @@ pub shift_list : (n : ℕ) (v : C32) (old buf : List Float) → 2 * n ≤ length
 unfolding shifted
 shift_list n v old buf h m =
     m.is ∙ ap (λ (t : List Float). t ++ drop (2 * n) old) (tabulate_take (v.re ∷ v.im ∷ old) (2 * n) (omega arith))
+
+-- all +0
+tabulate_zeros : (n : ℕ) → tabulate n (λ q. zero32) ≡ zeros n
+unfolding tabulate
+tabulate_zeros zero = refl
+tabulate_zeros (suc n) = ap (λ (l : List Float). l ++ zero32 ∷ []) (tabulate_zeros n) ∙ snoc n
+  where
+    snoc : (n : ℕ) → zeros n ++ zero32 ∷ [] ≡ zeros (suc n)
+    snoc zero = refl
+    snoc (suc n) = ap (λ (l : List Float). zero32 ∷ l) (snoc n)
+
+pub clear_all : (old l : List Float) (i : ℕ) → length old ≤ i → i ≤ length old → Mapped (λ q. zero32) old i l → l ≡ zeros (length old)
+clear_all old l i h g m =
+    let e : i ≡ length old = omega arith in
+    m.is ∙ rw (drop_of_length-le old {i = i} h, append-nil, e) (tabulate_zeros (length old))
 
 -- the start weights
 pub start_is : (n c : ℕ) (w z : List Float) → length w ≡ 2 * n → z ≡ zeros (length w) → set z (2 * c) one32 ≡ start_weights n c

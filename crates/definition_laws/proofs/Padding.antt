@@ -1,4 +1,4 @@
--- Padding: products that are zeros, of either sign, may be left out of the end of a partial sum; +0 and a finite value make such a product. Assumes nothing.
+-- Padding: products that are zeros, of either sign, may be left out of the end of a partial sum, and of a sum; +0 and a finite value make such a product. Assumes nothing.
 use Prim.Native.Nat.{ℕ, zero, suc, ◌+◌, ◌-◌, ◌*◌, ◌<◌, ◌≤◌}
 use mathlib.Core.Path.{◌≡◌, refl, sym, ◌∙◌, ap}
 use mathlib.Core.Bool.{Bool, true, false}
@@ -13,7 +13,7 @@ use lib.Ieee.Scale.{finite}
 use Rattle.laws.specs.Zero.{not_neg_zero, add_any_zero, add_not_neg, mul_zero_right}
 use Rattle.types.specs.Bits.{zero32}
 use Rattle.definition.specs.Floats.{◌+f◌, ◌-f◌, ◌*f◌}
-use Rattle.definition.specs.Slices.{lane, lane_count}
+use Rattle.definition.specs.Slices.{lane, lane_count, sum8}
 
 -- a zero of either sign
 pub record Zero (x : Float) : Type 0 where
@@ -48,6 +48,13 @@ module _ (p : ℕ → Float) (each : (i : ℕ) → T (fits binary32 (p i))) wher
       let c = lane_count m k - lane_count n k in
       let e : b + c ≡ lane_count m k = omega arith in
       ap (lane p k) (sym e) ∙ lane-pad k b c (λ i x y. z (8 * i + k) (omega arith) (omega arith))
+
+  -- and so is the whole sum
+  pub sum-pad : (n m : ℕ) → n ≤ m → ((i : ℕ) → n ≤ i → i < m → Zero (p i)) → sum8 p m ≡ sum8 p n
+  unfolding sum8
+  sum-pad n m h z =
+      let s : (k : ℕ) → k < 8 → lane p k (lane_count m k) ≡ lane p k (lane_count n k) = λ k l. lane-same n m k l h z in
+      rw (s 0 (omega arith), s 1 (omega arith), s 2 (omega arith), s 3 (omega arith), s 4 (omega arith), s 5 (omega arith), s 6 (omega arith), s 7 (omega arith))
 
 -- ---- a weight +0 and a finite window
 pub times_zero : (x : Float) → T (finite x) → Zero (x *f zero32)

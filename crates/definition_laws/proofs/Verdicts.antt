@@ -2,7 +2,7 @@
 use Prim.Native.Nat.{ℕ, ◌/◌, ◌%◌}
 use mathlib.Core.Path.{◌≡◌, refl, sym}
 use mathlib.Core.Bool.{Bool, true, false, cond, ◌&&◌}
-use mathlib.Core.List.{List, ◌∷◌}
+use mathlib.Core.List.{List, [], ◌∷◌, ◌++◌}
 use native.Mathlib.Omega.{arith}
 use lib.ListN.{length}
 use lib.Ieee.{Float}
@@ -30,6 +30,21 @@ module _ (b : Bool) (e : Error) (ts : List Test) where
       go : (c : Bool) → b ≡ c → cond c (first_of ts) (Err e) ≡ (Ok tt) → (b ≡ true) × (first_of ts ≡ (Ok tt))
       go true p k = (p, k)
       go false p k = absurd (ok_no_err tt e (sym k))
+
+-- the first outcome, or the second where the first is Ok
+abbrev pub or_next : Outcome → Outcome → Outcome
+or_next (Ok tt) o = o
+or_next (Err e) o = Err e
+
+-- of joined lists the first that fails is that of the one, and that of the other where the one passes
+pub joined : (a b : List Test) → first_of (a ++ b) ≡ or_next (first_of a) (first_of b)
+unfolding first_of
+joined [] b = refl
+joined (t ∷ a) b = go t.passed (joined a b)
+  where
+    go : (c : Bool) → first_of (a ++ b) ≡ or_next (first_of a) (first_of b) → cond c (first_of (a ++ b)) (Err t.refusal) ≡ or_next (cond c (first_of a) (Err t.refusal)) (first_of b)
+    go true h = h
+    go false h = refl
 
 -- ---- what a call answers, by its verdict
 

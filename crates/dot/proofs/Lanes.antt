@@ -3,10 +3,12 @@ use Prim.Native.Nat.{ℕ, suc, ◌+◌, ◌*◌, ◌/◌, ◌%◌, ◌<◌, ◌�
 use mathlib.Core.Path.{◌≡◌, refl, ◌∙◌}
 use mathlib.Core.List.{List}
 use native.Mathlib.Omega.{arith}
-use native.Mathlib.Decide.{dec_lt}
-use lib.ListN.{length, get_or, replicate, get_or-replicate}
+use native.Mathlib.Decide.{ℕ_discrete, dec_lt}
+use lib.ListN.{length, get_or, set, replicate, length-set, get_or-replicate}
+use lib.Seq.{get_or-set_same, get_or-set_other}
 use lib.Ieee.{Float, nan}
 use Rattle.types.specs.Bits.{zero32}
+use Rattle.definition.specs.Floats.{◌+f◌}
 use Rattle.definition.specs.Slices.{lane, lane_count, sum8, tree}
 use Rattle.dot.specs.Added.{Added}
 
@@ -17,6 +19,23 @@ pub record Lanes (p : ℕ → Float) (n : ℕ) (l : List Float) : Type 0 where
 pub lanes_none : (p : ℕ → Float) → Lanes p 0 (replicate 8 zero32)
 unfolding lane
 lanes_none p = record { long = refl; sums = λ k h. let e : lane_count 0 k ≡ 0 = omega arith in get_or-replicate 8 k zero32 nan h ∙ rw e }
+
+more_at : (p : ℕ → Float) (n k : ℕ) (l : List Float) → Lanes p n l → k < 8 → Dec (k ≡ n % 8)
+    → get_or (set l (n % 8) (get_or l (n % 8) nan +f p n)) k nan ≡ lane p k (lane_count (n + 1) k)
+unfolding lane
+more_at p n k l s h (yes e) =
+    let c0 : lane_count n (n % 8) ≡ n / 8 = omega arith in
+    let c1 : lane_count (n + 1) (n % 8) ≡ suc (n / 8) = omega arith in
+    let i : 8 * (n / 8) + n % 8 ≡ n = omega arith in
+    rw (e, get_or-set_same l (n % 8) (get_or l (n % 8) nan +f p n) nan (omega arith), c1, i, s.sums (n % 8) (omega arith), c0)
+more_at p n k l s h (no d) =
+    let c1 : lane_count (n + 1) k ≡ lane_count n k = omega arith in
+    get_or-set_other l (n % 8) k (get_or l (n % 8) nan +f p n) nan d ∙ s.sums k h ∙ rw c1
+
+-- product n, which is v, goes to partial sum n % 8
+pub lanes_more : (p : ℕ → Float) (n : ℕ) (l : List Float) (v : Float) → v ≡ p n → Lanes p n l → Lanes p (n + 1) (set l (n % 8) (get_or l (n % 8) nan +f v))
+lanes_more p n l v e s =
+    rw e (record { long = simp length-set s.long; sums = λ k h. more_at p n k l s h (ℕ_discrete k (n % 8)) })
 
 pub lanes_tree : (p : ℕ → Float) (n : ℕ) {l : List Float} → Lanes p n l → tree (λ k. get_or l k nan) ≡ sum8 p n
 unfolding sum8

@@ -41,7 +41,7 @@ go_uneven r m true true p q = rw (is_finite r p, is_finite m q)
 go_uneven r m true false p q = rw (is_finite r p, not_finite m q)
 go_uneven r m false b p q = rw (not_finite r p)
 
-uneven_is : (r m : Float) → uneven r m ≡ not (finite r && finite m)
+pub uneven_is : (r m : Float) → uneven r m ≡ not (finite r && finite m)
 uneven_is r m = go_uneven r m (finite r) (finite m) refl refl
 
 pub even_fine : (r m : Float) → uneven r m ≡ false → T (finite r) × T (finite m)

@@ -18,7 +18,7 @@ use Rattle.definition_laws.proofs.Every.{length_tabulate, every-at}
 use Rattle.definition_laws.proofs.Mapped.{part_even, part_odd}
 use Rattle.lanes.proofs.Places.{each_place}
 
-tabulate_at : (f : ℕ → Float) (n k : ℕ) → k < n → get_or (tabulate n f) k nan ≡ f k
+pub tabulate_at : (f : ℕ → Float) (n k : ℕ) → k < n → get_or (tabulate n f) k nan ≡ f k
 unfolding tabulate
 tabulate_at f zero k h = absurd (omega arith)
 tabulate_at f (suc n) k h = go (ℕ_discrete k n) (tabulate_at f n k)

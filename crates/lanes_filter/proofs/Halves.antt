@@ -42,7 +42,7 @@ unfolding lane
 lane_cong p q k zero h = refl
 lane_cong p q k (suc b) h = rw (lane_cong p q k b (λ i l. h i (omega arith)), h b (omega arith))
 
-sum_cong : (p q : ℕ → Float) (n : ℕ) → ((i : ℕ) → i < n → p i ≡ q i) → sum8 p n ≡ sum8 q n
+pub sum_cong : (p q : ℕ → Float) (n : ℕ) → ((i : ℕ) → i < n → p i ≡ q i) → sum8 p n ≡ sum8 q n
 unfolding sum8
 sum_cong p q n h =
     tree_cong (λ k. lane p k (lane_count n k)) (λ k. lane q k (lane_count n k)) (λ k l. lane_cong p q k (lane_count n k) (λ i b. h (8 * i + k) (omega arith)))

@@ -1,12 +1,12 @@
 -- What a byte divides a list into, and words in it, by the library's words for a `split` and a `position`. Assumes nothing.
-use Rattle.std.proofs.Common.{◌≡◌, ℕ, zero, suc, ◌+◌, ◌<◌, ◌≤◌, Bool, true, false, cond, eqb, ltb, List, [], ◌∷◌, length, take, Some, None, unwrap_or, refl, ap, ◌∙◌, sym, arith}
+use Rattle.std.proofs.Common.{◌≡◌, ℕ, zero, suc, ◌+◌, ◌<◌, ◌≤◌, Bool, true, false, cond, eqb, ltb, List, [], ◌∷◌, length, get_or, take, Some, None, unwrap_or, refl, ap, ◌∙◌, sym, arith}
 use Rattle.std.specs.List.{position, position_or_len, position_from, slice_split, onto_first, count_by}
 use Rattle.std.specs.Cmp.Lexicographic.{pointwise}
 use Rattle.std.proofs.lemmas.List.Recursion.{is_position_or_len}
 use Rattle.std.proofs.lemmas.List.Sums.{prefix_len-le-length}
 use Rattle.std.proofs.lemmas.List.Splits.{length-slice_split}
 use Rattle.std.proofs.lemmas.Iterator.Adapters.{position_from-zero}
-use borrow.Author.Tests.{ltb-false}
+use borrow.Author.Tests.{eqb-false, ltb-false}
 use Rattle.program_words.specs.Words.{before, onto, divided, same_of, place_in_from, place_in}
 
 -- the bytes before the first d are those before the first that passes
@@ -16,6 +16,18 @@ before_is d l = is_position_or_len (before d) (λ b. eqb b d) refl (λ b t. ap (
 
 pub before_most : (d : ℕ) (l : List ℕ) → before d l ≤ length l
 before_most d l = rw (before_is d l) (prefix_len-le-length _ l)
+
+none_by : (c : Bool) (d b : ℕ) (l : List ℕ) → eqb b d ≡ c → (length l ≤ before d l → (j : ℕ) → j < length l → get_or l j 0 ≡ d → ⊥) → suc (length l) ≤ cond c 0 (suc (before d l))
+    → (j : ℕ) → j < suc (length l) → get_or (b ∷ l) j 0 ≡ d → ⊥
+none_by true d b l q f h j k e = omega arith
+none_by false d b l q f h zero k e = eqb-false b d q e
+none_by false d b l q f h (suc j) k e = f (omega arith) j (omega arith) e
+
+-- no byte is d where all stand before the first
+pub before_none : (d : ℕ) (l : List ℕ) → length l ≤ before d l → (j : ℕ) → j < length l → get_or l j 0 ≡ d → ⊥
+unfolding before
+before_none d [] h j k e = omega arith
+before_none d (b ∷ l) h j k e = none_by (eqb b d) d b l refl (before_none d l) h j k e
 
 -- the place of what is found, or the end
 pub found_by : (c : Bool) (p n : ℕ) → ltb p n ≡ c → p ≤ n → unwrap_or (cond c (Some p) None) n ≡ p

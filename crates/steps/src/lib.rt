@@ -71,9 +71,9 @@ struct Marked {
 
 // The error of the mode, and the sample to feed back.
 #[derive(Clone, Copy)]
-struct Aim {
-    e: C32,
-    fed: C32,
+pub struct Aim {
+    pub e: C32,
+    pub fed: C32,
 }
 
 impl Told {

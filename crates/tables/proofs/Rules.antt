@@ -213,6 +213,20 @@ half_turn k h =
     ∙ at_map (λ (x : ℕ). neg (of_bits binary32 x)) (take 1024 cos_bits) nan k (subst (λ (n : ℕ). k < n) (sym quarter_length) h)
     ∙ ap (λ (x : ℕ). neg (of_bits binary32 x)) (get_or-take 1024 cos_bits k 0 h)
 
+-- so the second quarter is the first, backwards, with the opposite sign
+pub second_quarter : (k : ℕ) → 1024 < k → k < 2049 → neg (cos_at (2048 - k)) ≡ cos_at k
+second_quarter k l h =
+    sym (half_turn (2048 - k) (back k l)) ∙ ap cos_at (again k h) ∙ sym (mirror k (here k h))
+  where
+    back : (k : ℕ) → 1024 < k → 2048 - k < 1024
+    back k l = omega arith
+
+    again : (k : ℕ) → k < 2049 → 2048 + (2048 - k) ≡ 4096 - k
+    again k h = omega arith
+
+    here : (k : ℕ) → k < 2049 → k < 4097
+    here k h = omega arith
+
 -- ---- all of them
 at_first : cos_at 0 ≡ of_bits binary32 0x3f80_0000
 unfolding cos_at cos_bits
