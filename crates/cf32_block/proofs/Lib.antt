@@ -1,2 +1,3 @@
--- Tables: the rows, computed.
+-- Tables: the rows, computed. Exits: a served call and a refused one.
 pub mod Tables
+pub mod Exits
